@@ -1,0 +1,148 @@
+-- Document 01's report table, a line for each of its rows.
+--
+--     Mux      Report, bytes from 1                                                   Length
+--     E0       status, isolation Ohm/V (2-3), uncertainty (4), energy mJ (5-6), uncertainty (7)   8
+--     E1       status, Rp kOhm, uncertainty, Rn, uncertainty, same places                8
+--     E2       status, Cp nF, uncertainty, Cn, uncertainty                               8
+--     E3       status, Vp V, uncertainty, Vn, uncertainty                                8
+--     E4       status, Vb V, uncertainty, Vb max, uncertainty                            8
+--     E5       status, error flags: SIM100 byte 2, SIM101 bytes 2-3                      8 / 4
+--     01-0B    one 32-bit word (part name, version, serial)                              5
+--     80       SIM101 only: temperature in thousandths of a degree, signed 32 bits       5
+--     F0       SIM100 only: working voltage, request and report alike                    3
+use Prim.Native.Nat.{ℕ, zero, suc, _+_, _*_}
+use mathlib.Core.Bool.{Bool, true, false, cond, _&&_}
+use mathlib.Core.List.{List, [], _∷_, _++_, map}
+use lib.Dec.{leb, eqb}
+use lib.IntN.{ℤ, pos}
+use lib.ListN.{getD}
+use Rattle.words.specs.declared.Order.the-variants.{Big}
+use Rattle.words.specs.Words.{wordOf}
+use Rattle.words.specs.Signed.{signedOf}
+use Rattle.refusal.specs.declared.Refusal.the-variants.{OverLimits, NotExpected, NotListed}
+use Rattle.codec.specs.declared.frame.Frame.{Frame}
+use Rattle.codec.specs.declared.rows.Kind.{Kind}
+use Rattle.codec.specs.declared.rows.Kind.the-variants.{Sim100, Sim101}
+use Rattle.codec.specs.declared.rows.Row.{Row}
+use Rattle.codec.specs.declared.rows.Row.the-variants.{MuxE0, MuxE1, MuxE2, MuxE3, MuxE4, MuxE5, Mux01To0B, Mux80, MuxF0}
+use Rattle.codec.specs.declared.rows.Listing.{Listing}
+use Rattle.codec.specs.declared.rows.Listing.the-variants.{Refused, Listed}
+use Rattle.codec.specs.Frames.{overLimits, notExpected, muxOf}
+
+-- ---- fields
+
+-- the bytes from a place on, as many as the width says
+abbrev pub part : List ℕ → ℕ → ℕ → List ℕ
+part bytes place zero = []
+part bytes place (suc width) = getD bytes place 0 ∷ part bytes (place + 1) width
+
+-- the number at a place: "All numbers are most significant byte first"
+abbrev pub numberAt : List ℕ → ℕ → ℕ → ℕ
+numberAt bytes place width = wordOf Big (part bytes place width)
+
+pub record Field : Type 0 where
+  pub place : ℕ
+  pub width : ℕ
+  pub signed : Bool
+
+abbrev pub unsigned : ℕ → ℕ → Field
+unsigned place width = record { place = place; width = width; signed = false }
+
+abbrev pub twos : ℕ → ℕ → Field
+twos place width = record { place = place; width = width; signed = true }
+
+abbrev pub valueBy : Bool → ℕ → ℕ → ℤ
+valueBy false width n = pos n
+valueBy true width n = signedOf (8 * width) n
+
+abbrev pub valueIn : List ℕ → Field → ℤ
+valueIn bytes f = valueBy (f .signed) (f .width) (numberAt bytes (f .place) (f .width))
+
+-- "For SIM100 all 16-bit values are unsigned. For SIM101, Vp, Vn and Vb are signed, two's complement"
+abbrev pub voltageAt : Kind → ℕ → Field
+voltageAt Sim100 place = unsigned place 2
+voltageAt Sim101 place = twos place 2
+
+-- status, a value, its uncertainty, another value, its uncertainty
+abbrev pub estimatesOf : Field → Field → List Field
+estimatesOf first second = unsigned 1 1 ∷ first ∷ unsigned 4 1 ∷ second ∷ unsigned 7 1 ∷ []
+
+abbrev pub flagsOf : Kind → List Field
+flagsOf Sim100 = unsigned 1 1 ∷ unsigned 2 1 ∷ []
+flagsOf Sim101 = unsigned 1 1 ∷ unsigned 2 2 ∷ []
+
+abbrev pub flagsLength : Kind → ℕ
+flagsLength Sim100 = 8
+flagsLength Sim101 = 4
+
+-- "A SIM100 read request has length 1. A SIM101 request has length 3"
+abbrev pub requestLength : Kind → ℕ
+requestLength Sim100 = 1
+requestLength Sim101 = 3
+
+-- ---- rows
+
+-- a row: the multiplexers first to last, the lengths of report and request, and the report's fields
+pub record Entry : Type 0 where
+  pub first : ℕ
+  pub last : ℕ
+  pub row : Row
+  pub report : ℕ
+  pub request : ℕ
+  pub fields : List Field
+
+abbrev pub entry : ℕ → ℕ → Row → ℕ → ℕ → List Field → Entry
+entry first last row report request fields = record { first = first; last = last; row = row; report = report; request = request; fields = fields }
+
+-- the rows that both kinds have
+abbrev pub common : Kind → List Entry
+common k =
+    entry 0xE0 0xE0 MuxE0 8 (requestLength k) (estimatesOf (unsigned 2 2) (unsigned 5 2))
+    ∷ entry 0xE1 0xE1 MuxE1 8 (requestLength k) (estimatesOf (unsigned 2 2) (unsigned 5 2))
+    ∷ entry 0xE2 0xE2 MuxE2 8 (requestLength k) (estimatesOf (unsigned 2 2) (unsigned 5 2))
+    ∷ entry 0xE3 0xE3 MuxE3 8 (requestLength k) (estimatesOf (voltageAt k 2) (voltageAt k 5))
+    ∷ entry 0xE4 0xE4 MuxE4 8 (requestLength k) (estimatesOf (voltageAt k 2) (unsigned 5 2))
+    ∷ entry 0xE5 0xE5 MuxE5 (flagsLength k) (requestLength k) (flagsOf k)
+    ∷ entry 0x01 0x0B Mux01To0B 5 (requestLength k) (unsigned 1 4 ∷ [])
+    ∷ []
+
+-- the row that one kind alone has
+abbrev pub own : Kind → Entry
+own Sim100 = entry 0xF0 0xF0 MuxF0 3 3 (unsigned 1 2 ∷ [])
+own Sim101 = entry 0x80 0x80 Mux80 5 3 (twos 1 4 ∷ [])
+
+abbrev pub table : Kind → List Entry
+table k = own k ∷ common k
+
+abbrev pub covers : Entry → ℕ → Bool
+covers e mux = leb (e .first) mux && leb mux (e .last)
+
+-- 3: "a multiplexer not listed for that device kind"
+abbrev pub rowIn : List Entry → ℕ → Listing
+rowIn [] mux = Refused NotListed
+rowIn (e ∷ es) mux = cond (covers e mux) (Listed (e .row) (e .report) (e .request)) (rowIn es mux)
+
+unfoldable pub rowOf : Kind → ℕ → Listing
+rowOf k mux = rowIn (table k) mux
+
+abbrev pub fieldsIn : List Entry → ℕ → List Field
+fieldsIn [] mux = []
+fieldsIn (e ∷ es) mux = cond (covers e mux) (e .fields) (fieldsIn es mux)
+
+-- the values that the table finds in a report's bytes
+abbrev pub tableValues : Kind → ℕ → List ℕ → List ℤ
+tableValues k mux bytes = map (valueIn bytes) (fieldsIn (table k) mux)
+
+-- the row of one of E0 to E5
+abbrev pub measurementRow : ℕ → Row
+measurementRow mux =
+    cond (eqb mux 0xE0) MuxE0
+    (cond (eqb mux 0xE1) MuxE1 (cond (eqb mux 0xE2) MuxE2 (cond (eqb mux 0xE3) MuxE3 (cond (eqb mux 0xE4) MuxE4 MuxE5))))
+
+-- ---- the row of a frame: 1, 2, 3 in that order, and 3 also for length 0
+
+abbrev pub frameRow : Kind → ℕ → Frame → Listing
+frameRow k expected f =
+    cond (overLimits f) (Refused OverLimits)
+    (cond (notExpected expected f) (Refused NotExpected)
+    (cond (eqb (f .length) 0) (Refused NotListed) (rowOf k (muxOf f))))
