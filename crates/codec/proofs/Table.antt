@@ -1,24 +1,25 @@
 -- The table: which rows a multiplexer is not in, and the one that it is in. Assumes nothing.
 use Prim.Native.Nat.{ℕ, zero, suc, _+_, _-_, _≤_, _<_}
-use mathlib.Core.Path.{_≡_, refl, sym, subst, _∙_}
+use mathlib.Core.Path.{_≡_, refl, ap, sym, subst, _∙_}
 use mathlib.Core.Bool.{Bool, true, false, _&&_, _||_, and-false}
 use mathlib.Core.List.{List, [], _∷_, _++_}
+use mathlib.Core.Option.{Option, none, some}
 use mathlib.Core.Logic.{_⊎_, inl, inr, ⊎-elim}
 use native.Mathlib.Omega.{arith}
 use borrow.Author.Tests.{le-leb, lt-leb}
 use lib.Dec.{T, leb, leb→le}
-use lib.ListN.{take, drop}
+use lib.ListN.{getD, take, drop}
 use mir.Facts.{and-yes, or-yes}
+use Rattle.words.proofs.Tests.{decided}
 use Rattle.refusal.specs.declared.Refusal.the-variants.{NotListed}
 use Rattle.codec.specs.declared.rows.Kind.{Kind}
-use Rattle.codec.specs.declared.rows.Kind.the-variants.{Sim100, Sim101}
 use Rattle.codec.specs.declared.rows.Row.the-variants.{Mux01To0B}
 use Rattle.codec.specs.declared.rows.Listing.the-variants.{Refused, Listed}
-use Rattle.codec.specs.Table.{Entry, covers, rowIn, rowOf, table, own, common, requestLength}
+use Rattle.codec.specs.Table.{Line, covers, lineIn, lineOf, asRow, rowOf, table, own, common, requestLength}
 
 -- ---- covers
 
-missed : (e : Entry) (m : ℕ) → (e .last < m) ⊎ (m < e .first) → covers e m ≡ false
+missed : (e : Line) (m : ℕ) → (e .last < m) ⊎ (m < e .first) → covers e m ≡ false
 missed e m (inl h) = rw (lt-leb m (e .last) h) (and-false (leb (e .first) m))
 missed e m (inr h) = rw (lt-leb (e .first) m h)
 
@@ -32,14 +33,14 @@ apart x m n =
     refuted (leb x m && leb m x)
     (λ t. let both = and-yes (leb x m) (leb m x) t in n (omega (arith, leb→le x m (both .0), leb→le m x (both .1))))
 
--- ---- rowIn
+-- ---- lineIn
 
 -- no row has a multiplexer strictly between the two
-abbrev clear : List Entry → ℕ → ℕ → Bool
+abbrev clear : List Line → ℕ → ℕ → Bool
 clear [] low high = true
 clear (e ∷ es) low high = (leb (e .last) low || leb high (e .first)) && clear es low high
 
-past : (es rest : List Entry) (low high m : ℕ) → T (clear es low high) → low < m → m < high → rowIn (es ++ rest) m ≡ rowIn rest m
+past : (es rest : List Line) (low high m : ℕ) → T (clear es low high) → low < m → m < high → lineIn (es ++ rest) m ≡ lineIn rest m
 past [] rest low high m t h k = refl
 past (e ∷ es) rest low high m t h k =
     let both = and-yes (leb (e .last) low || leb high (e .first)) (clear es low high) t in
@@ -50,23 +51,47 @@ past (e ∷ es) rest low high m t h k =
     (or-yes (leb (e .last) low) (leb high (e .first)) (both .0)) in
     rw (missed e m out) (past es rest low high m (both .1) h k)
 
--- ---- rowOf
+-- ---- lineOf
 
--- a multiplexer where the common rows have none, and that the kind's own row has not
+-- a multiplexer where the common lines have none, and that the kind's own line has not
 pub unlisted : (k : Kind) (low high m : ℕ) → T (clear (common k) low high) → low < m → m < high → covers (own k) m ≡ false → rowOf k m ≡ Refused NotListed
-unfolding rowOf
-unlisted k low high m t h l o = rw o (past (common k) [] low high m t h l)
-
-before-words : (k : Kind) → T (clear (take 7 (table k)) 0 0x0C)
-before-words Sim100 = tt
-before-words Sim101 = tt
+unfolding lineOf
+unlisted k low high m t h l o =
+    let last : lineIn (own k ∷ []) m ≡ none = rw o refl in
+    ap asRow (past (common k) (own k ∷ []) low high m t h l ∙ last)
 
 -- 01 to 0B
-pub word-row : (k : Kind) (m : ℕ) → 0x01 ≤ m → m ≤ 0x0B → rowOf k m ≡ Listed Mux01To0B 5 (requestLength k)
-unfolding rowOf
-word-row k m h l =
-    past (take 7 (table k)) (drop 7 (table k)) 0 0x0C m (before-words k) (omega arith) (omega arith)
+pub word-line : (k : Kind) (m : ℕ) → 0x01 ≤ m → m ≤ 0x0B → lineOf k m ≡ some (getD (table k) 6 (own k))
+unfolding lineOf
+word-line k m h l =
+    past (take 6 (table k)) (drop 6 (table k)) 0 0x0C m tt (omega arith) (omega arith)
     ∙ rw (le-leb 0x01 m h, le-leb m 0x0B l) refl
+
+pub word-row : (k : Kind) (m : ℕ) → 0x01 ≤ m → m ≤ 0x0B → rowOf k m ≡ Listed Mux01To0B 5 (requestLength k)
+word-row k m h l = ap asRow (word-line k m h l)
+
+-- what holds of a multiplexer and its line, whichever that is: shown line by line
+module _ (P : ℕ → Option Line → Type 0) where
+  abbrev pub Each : List Line → Type 0
+  Each [] = Unit
+  Each (l ∷ ls) = ((m : ℕ) → l .first ≤ m → m ≤ l .last → P m (some l)) × Each ls
+
+  each : (ls : List Line) (m : ℕ) → P m none → Each ls → P m (lineIn ls m)
+  each [] m n h = n
+  each (l ∷ ls) m n h =
+      decided (covers l m)
+      (λ t. let both = and-yes (leb (l .first) m) (leb m (l .last)) (subst T (sym t) tt) in rw t (h .0 m (leb→le (l .first) m (both .0)) (leb→le m (l .last) (both .1))))
+      (λ f. rw f (each ls m n (h .1)))
+
+  pub by-line : (k : Kind) (m : ℕ) → P m none → Each (table k) → P m (lineOf k m)
+  unfolding lineOf
+  by-line k m n h = each (table k) m n h
+
+-- a line of one multiplexer
+pub just : (x : ℕ) (P : ℕ → Type 0) → P x → (m : ℕ) → x ≤ m → m ≤ x → P m
+just x P p m h l =
+    let e : x ≡ m = omega arith in
+    subst P e p
 
 -- E0 to E5, one by one
 module _ (P : ℕ → Type 0) (p0 : P 0xE0) (p1 : P 0xE1) (p2 : P 0xE2) (p3 : P 0xE3) (p4 : P 0xE4) (p5 : P 0xE5) where

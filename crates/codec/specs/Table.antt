@@ -12,7 +12,8 @@
 --     F0       SIM100 only: working voltage, request and report alike                    3
 use Prim.Native.Nat.{ℕ, zero, suc, _+_, _*_}
 use mathlib.Core.Bool.{Bool, true, false, cond, _&&_}
-use mathlib.Core.List.{List, [], _∷_, _++_, map}
+use mathlib.Core.List.{List, [], _∷_, _++_}
+use mathlib.Core.Option.{Option, none, some}
 use lib.Dec.{leb, eqb}
 use lib.IntN.{ℤ, pos}
 use lib.ListN.{getD}
@@ -82,56 +83,58 @@ requestLength Sim101 = 3
 
 -- ---- rows
 
--- a row: the multiplexers first to last, the lengths of report and request, and the report's fields
-pub record Entry : Type 0 where
+-- a line: the multiplexers first to last, the row's name, the lengths of report and request, and the fields of both
+pub record Line : Type 0 where
   pub first : ℕ
   pub last : ℕ
   pub row : Row
   pub report : ℕ
   pub request : ℕ
   pub fields : List Field
+  pub asked : List Field
 
-abbrev pub entry : ℕ → ℕ → Row → ℕ → ℕ → List Field → Entry
-entry first last row report request fields = record { first = first; last = last; row = row; report = report; request = request; fields = fields }
+abbrev pub line : ℕ → ℕ → Row → ℕ → ℕ → List Field → List Field → Line
+line first last row report request fields asked =
+    record { first = first; last = last; row = row; report = report; request = request; fields = fields; asked = asked }
 
--- the rows that both kinds have
-abbrev pub common : Kind → List Entry
+-- the lines that both kinds have
+abbrev pub common : Kind → List Line
 common k =
-    entry 0xE0 0xE0 MuxE0 8 (requestLength k) (estimatesOf (unsigned 2 2) (unsigned 5 2))
-    ∷ entry 0xE1 0xE1 MuxE1 8 (requestLength k) (estimatesOf (unsigned 2 2) (unsigned 5 2))
-    ∷ entry 0xE2 0xE2 MuxE2 8 (requestLength k) (estimatesOf (unsigned 2 2) (unsigned 5 2))
-    ∷ entry 0xE3 0xE3 MuxE3 8 (requestLength k) (estimatesOf (voltageAt k 2) (voltageAt k 5))
-    ∷ entry 0xE4 0xE4 MuxE4 8 (requestLength k) (estimatesOf (voltageAt k 2) (unsigned 5 2))
-    ∷ entry 0xE5 0xE5 MuxE5 (flagsLength k) (requestLength k) (flagsOf k)
-    ∷ entry 0x01 0x0B Mux01To0B 5 (requestLength k) (unsigned 1 4 ∷ [])
+    line 0xE0 0xE0 MuxE0 8 (requestLength k) (estimatesOf (unsigned 2 2) (unsigned 5 2)) []
+    ∷ line 0xE1 0xE1 MuxE1 8 (requestLength k) (estimatesOf (unsigned 2 2) (unsigned 5 2)) []
+    ∷ line 0xE2 0xE2 MuxE2 8 (requestLength k) (estimatesOf (unsigned 2 2) (unsigned 5 2)) []
+    ∷ line 0xE3 0xE3 MuxE3 8 (requestLength k) (estimatesOf (voltageAt k 2) (voltageAt k 5)) []
+    ∷ line 0xE4 0xE4 MuxE4 8 (requestLength k) (estimatesOf (voltageAt k 2) (unsigned 5 2)) []
+    ∷ line 0xE5 0xE5 MuxE5 (flagsLength k) (requestLength k) (flagsOf k) []
+    ∷ line 0x01 0x0B Mux01To0B 5 (requestLength k) (unsigned 1 4 ∷ []) []
     ∷ []
 
--- the row that one kind alone has
-abbrev pub own : Kind → Entry
-own Sim100 = entry 0xF0 0xF0 MuxF0 3 3 (unsigned 1 2 ∷ [])
-own Sim101 = entry 0x80 0x80 Mux80 5 3 (twos 1 4 ∷ [])
+-- the line that one kind alone has
+abbrev pub own : Kind → Line
+own Sim100 = line 0xF0 0xF0 MuxF0 3 3 (unsigned 1 2 ∷ []) (unsigned 1 2 ∷ [])
+own Sim101 = line 0x80 0x80 Mux80 5 3 (twos 1 4 ∷ []) []
 
-abbrev pub table : Kind → List Entry
-table k = own k ∷ common k
+abbrev pub table : Kind → List Line
+table k = common k ++ (own k ∷ [])
 
-abbrev pub covers : Entry → ℕ → Bool
-covers e mux = leb (e .first) mux && leb mux (e .last)
+abbrev pub covers : Line → ℕ → Bool
+covers l mux = leb (l .first) mux && leb mux (l .last)
+
+abbrev pub lineIn : List Line → ℕ → Option Line
+lineIn [] mux = none
+lineIn (l ∷ ls) mux = cond (covers l mux) (some l) (lineIn ls mux)
+
+-- the line of a multiplexer, if the kind lists it
+unfoldable pub lineOf : Kind → ℕ → Option Line
+lineOf k mux = lineIn (table k) mux
 
 -- 3: "a multiplexer not listed for that device kind"
-abbrev pub rowIn : List Entry → ℕ → Listing
-rowIn [] mux = Refused NotListed
-rowIn (e ∷ es) mux = cond (covers e mux) (Listed (e .row) (e .report) (e .request)) (rowIn es mux)
+abbrev pub asRow : Option Line → Listing
+asRow none = Refused NotListed
+asRow (some l) = Listed (l .row) (l .report) (l .request)
 
-unfoldable pub rowOf : Kind → ℕ → Listing
-rowOf k mux = rowIn (table k) mux
-
-abbrev pub fieldsIn : List Entry → ℕ → List Field
-fieldsIn [] mux = []
-fieldsIn (e ∷ es) mux = cond (covers e mux) (e .fields) (fieldsIn es mux)
-
--- the values that the table finds in a report's bytes
-abbrev pub tableValues : Kind → ℕ → List ℕ → List ℤ
-tableValues k mux bytes = map (valueIn bytes) (fieldsIn (table k) mux)
+abbrev pub rowOf : Kind → ℕ → Listing
+rowOf k mux = asRow (lineOf k mux)
 
 -- the row of one of E0 to E5
 abbrev pub measurementRow : ℕ → Row

@@ -1,6 +1,7 @@
-// A report built as a frame.
+// A report, or a request, built as a frame.
 ghost use mathlib.Core.Path.{_≡_};
 ghost use Rattle.codec.specs.Frames.{bodyOf};
+ghost use Rattle.codec.specs.Requests.{unlistedRequest, readBytes, requestBytes, buildRequest};
 ghost use Rattle.codec.specs.Building.{
   isSim100,
   unlisted,
@@ -26,6 +27,7 @@ use crate::report::ErrorFlags;
 use crate::report::Estimates;
 use crate::report::Report;
 use crate::report::Voltages;
+use crate::request::Request;
 use crate::rows::Kind;
 use refusal::Refusal;
 use words::Order;
@@ -34,7 +36,7 @@ use words::twos::pattern32;
 use words::word::bytes16;
 use words::word::bytes32;
 
-pub fn is_sim100(kind: Kind) -> bool
+fn is_sim100(kind: Kind) -> bool
     ensures { λ r. ⌜ r ≡ isSim100 kind ⌝ }
 {
     match kind {
@@ -171,7 +173,7 @@ fn word_body(mux: u8, word: u32) -> Body
 }
 
 // F0, request and report alike.
-pub fn working_voltage_body(voltage: u16) -> Body
+fn working_voltage_body(voltage: u16) -> Body
     ensures { λ r. ⌜ r ≡ bodyOf (voltageBytes voltage) ⌝ }
 {
     let b = bytes16(Order::Big, voltage);
@@ -212,4 +214,67 @@ pub fn build_report(kind: Kind, identifier: u32, report: Report) -> Built
         return refused_frame(Refusal::DoesNotFit);
     }
     frame_with(identifier, report_body(kind, report))
+}
+
+// Refusal 3: the kind has no such request.
+fn unlisted_request(kind: Kind, request: Request) -> bool
+    ensures { λ r. ⌜ r ≡ unlistedRequest kind request ⌝ }
+{
+    match request {
+        Request::ReadIsolationState => false,
+        Request::ReadResistances => false,
+        Request::ReadCapacitances => false,
+        Request::ReadVoltages => false,
+        Request::ReadBattery => false,
+        Request::ReadErrorFlags => false,
+        Request::ReadWord(mux) => (mux < 0x01) | (mux > 0x0B),
+        Request::ReadTemperature => is_sim100(kind),
+        Request::SetWorkingVoltage(_) => !is_sim100(kind),
+    }
+}
+
+// A read request: length 1 for SIM100, 3 for SIM101.
+fn read_body(kind: Kind, mux: u8) -> Body
+    ensures { λ r. ⌜ r ≡ bodyOf (readBytes kind mux) ⌝ }
+{
+    match kind {
+        Kind::Sim100 => Body {
+            length: 1,
+            bytes: [mux, 0, 0, 0, 0, 0, 0, 0],
+        },
+        Kind::Sim101 => Body {
+            length: 3,
+            bytes: [mux, 0, 0, 0, 0, 0, 0, 0],
+        },
+    }
+}
+
+fn request_body(kind: Kind, request: Request) -> Body
+    ensures { λ r. ⌜ r ≡ bodyOf (requestBytes kind request) ⌝ }
+{
+    match request {
+        Request::ReadIsolationState => read_body(kind, 0xE0),
+        Request::ReadResistances => read_body(kind, 0xE1),
+        Request::ReadCapacitances => read_body(kind, 0xE2),
+        Request::ReadVoltages => read_body(kind, 0xE3),
+        Request::ReadBattery => read_body(kind, 0xE4),
+        Request::ReadErrorFlags => read_body(kind, 0xE5),
+        Request::ReadWord(mux) => read_body(kind, mux),
+        Request::ReadTemperature => read_body(kind, 0x80),
+        Request::SetWorkingVoltage(voltage) => working_voltage_body(voltage),
+    }
+}
+
+// Any values whatever, built as a request to the kind on the identifier: refusals 1, 3.
+pub fn build_request(kind: Kind, identifier: u32, request: Request) -> Built
+    ensures { λ r. ⌜ r ≡ buildRequest kind identifier request ⌝ }
+{
+    let over = identifier > 0x1FFFFFFF;
+    if over {
+        return refused_frame(Refusal::OverLimits);
+    }
+    if unlisted_request(kind, request) {
+        return refused_frame(Refusal::NotListed);
+    }
+    frame_with(identifier, request_body(kind, request))
 }

@@ -38,14 +38,14 @@ pub fn over_limits(f: Frame) -> bool
 }
 
 // Refusal 2.
-pub fn not_expected(expected: u32, f: Frame) -> bool
+pub(crate) fn not_expected(expected: u32, f: Frame) -> bool
     ensures { λ r. ⌜ r ≡ notExpected expected f ⌝ }
 {
     !f.extended | (f.identifier != expected)
 }
 
 // The extended frame with a body.
-pub fn frame_with(identifier: u32, body: Body) -> Built
+pub(crate) fn frame_with(identifier: u32, body: Body) -> Built
     ensures { λ r. ⌜ r ≡ frameWith identifier body ⌝ }
 {
     let bytes = body.bytes;
@@ -60,7 +60,7 @@ pub fn frame_with(identifier: u32, body: Body) -> Built
     }
 }
 
-pub fn refused_frame(why: Refusal) -> Built
+pub(crate) fn refused_frame(why: Refusal) -> Built
     ensures { λ r. ⌜ r ≡ refused why ⌝ }
 {
     Built {

@@ -3,9 +3,9 @@
 //     frame    what a frame is, refusals 1 and 2
 //     rows     document 01's report table: which multiplexers a device kind has, and their lengths
 //     report   what a report says
-//     read     a frame read as a report
-//     build    a report built as a frame
-//     request  requests of a host, read and built
+//     request  what a request asks
+//     read     a frame read as a report or a request
+//     build    a report or a request built as a frame
 pub mod build;
 pub mod frame;
 pub mod read;

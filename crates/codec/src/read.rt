@@ -1,6 +1,7 @@
-// A frame read as a report.
+// A frame read as a report, or as a request.
 ghost use mathlib.Core.Path.{_≡_};
 ghost use Rattle.codec.specs.Reports.{badStatus, hasStatus, wrongStatus, estimatesIn, voltageOf, voltagesIn, batteryIn, flagsIn, reportOf, readRow, readReport};
+ghost use Rattle.codec.specs.Requests.{requestOf, readRequestRow, readRequest};
 ghost use Rattle.codec.specs.Table.{numberAt};
 use crate::frame::Frame;
 use crate::report::Battery;
@@ -9,6 +10,8 @@ use crate::report::Estimates;
 use crate::report::Report;
 use crate::report::ReportReading;
 use crate::report::Voltages;
+use crate::request::Request;
+use crate::request::RequestReading;
 use crate::rows::Kind;
 use crate::rows::Listing;
 use crate::rows::Row;
@@ -21,7 +24,7 @@ use words::word::word16;
 use words::word::word32;
 
 // A status byte that no SIM100 sends: bit 4 set, or bits 1-0 equal to 01.
-pub fn bad_status(kind: Kind, status: u8) -> bool
+pub(crate) fn bad_status(kind: Kind, status: u8) -> bool
     ensures { λ r. ⌜ r ≡ badStatus kind status ⌝ }
 {
     match kind {
@@ -167,5 +170,46 @@ pub fn read_report(kind: Kind, expected: u32, f: Frame) -> ReportReading
             report,
             request: _,
         } => read_row(kind, row, report, f),
+    }
+}
+
+fn request_of(row: Row, f: Frame) -> Request
+    ensures { λ r. ⌜ r ≡ requestOf row (f .bytes) ⌝ }
+{
+    match row {
+        Row::MuxE0 => Request::ReadIsolationState,
+        Row::MuxE1 => Request::ReadResistances,
+        Row::MuxE2 => Request::ReadCapacitances,
+        Row::MuxE3 => Request::ReadVoltages,
+        Row::MuxE4 => Request::ReadBattery,
+        Row::MuxE5 => Request::ReadErrorFlags,
+        Row::Mux01To0B => Request::ReadWord(f.bytes[0]),
+        Row::Mux80 => Request::ReadTemperature,
+        Row::MuxF0 => Request::SetWorkingVoltage(word16(Order::Big, f.bytes[1], f.bytes[2])),
+    }
+}
+
+// Refusal 4 of a frame whose row is known.
+fn read_request_row(row: Row, length: u8, f: Frame) -> RequestReading
+    ensures { λ r. ⌜ r ≡ readRequestRow row length f ⌝ }
+{
+    let other = f.length != length;
+    if other {
+        return RequestReading::Refused(Refusal::WrongLength);
+    }
+    RequestReading::Read(request_of(row, f))
+}
+
+// Any frame whatever, read as a request to the kind on the expected identifier: refusals 1, 2, 3, 4.
+pub fn read_request(kind: Kind, expected: u32, f: Frame) -> RequestReading
+    ensures { λ r. ⌜ r ≡ readRequest kind expected f ⌝ }
+{
+    match frame_row(kind, expected, f) {
+        Listing::Refused(why) => RequestReading::Refused(why),
+        Listing::Listed {
+            row,
+            report: _,
+            request,
+        } => read_request_row(row, request, f),
     }
 }

@@ -97,7 +97,7 @@ fn sim101_row(mux: u8) -> Listing
 }
 
 // Refusal 3 where the kind does not list the multiplexer.
-pub fn row_of(kind: Kind, mux: u8) -> Listing
+pub(crate) fn row_of(kind: Kind, mux: u8) -> Listing
     ensures { λ r. ⌜ r ≡ rowOf kind mux ⌝ }
 {
     match kind {
@@ -107,7 +107,7 @@ pub fn row_of(kind: Kind, mux: u8) -> Listing
 }
 
 // The row that a frame is to be read by: refusals 1, 2 and 3.
-pub fn frame_row(kind: Kind, expected: u32, f: Frame) -> Listing
+pub(crate) fn frame_row(kind: Kind, expected: u32, f: Frame) -> Listing
     ensures { λ r. ⌜ r ≡ frameRow kind expected f ⌝ }
 {
     if over_limits(f) {

@@ -12,11 +12,8 @@ use lib.Signed.{ltZ, mag, nonNeg}
 use mir.Syntax.{w32}
 use mir.Facts.{toZ-ofZ}
 use mir.Val.{Fits, SFits, toZ, ofZ}
+use Rattle.words.proofs.Tests.{by-test, decided}
 use Rattle.words.specs.Signed.{signedOf, signedBy, patternOf, holds, holdsUnsigned}
-
-by-test : (b : Bool) (P : Bool → Type 0) → P true → P false → P b
-by-test true P p q = p
-by-test false P p q = q
 
 -- ---- signedOf
 
@@ -107,10 +104,6 @@ pub kept : (z : ℤ) → mag z < 2 ^ 31 → toZ w32 (ofZ w32 z) ≡ z
 kept z h = toZ-ofZ (record { sfits = h })
 
 -- ---- the code's limits: tests of a number against both ends of what 16 bits hold
-
-decided : {P : Type 0} (b : Bool) → (b ≡ true → P) → (b ≡ false → P) → P
-decided true p q = p refl
-decided false p q = q refl
 
 over : (h n : ℕ) → leb h n ≡ not (ltb n h)
 over h n =

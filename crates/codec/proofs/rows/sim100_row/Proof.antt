@@ -3,26 +3,26 @@ use mathlib.Core.Path.{_≡_, refl, sym}
 use native.Mathlib.Omega.{arith}
 use Rattle.codec.specs.declared.rows.Kind.the-variants.{Sim100}
 use Rattle.codec.specs.declared.rows.Listing.the-variants.{Listed}
-use Rattle.codec.specs.Table.{rowOf, measurementRow}
+use Rattle.codec.specs.Table.{lineOf, rowOf, measurementRow}
 use Rattle.codec.proofs.Table.{word-row, six, unlisted, apart}
 use Rattle.codec.proofs.rows.sim100_row.Statement.{statement}
 use Rattle.codec.proofs.rows.sim100_row.Tie as tie
 
 returns : tie.Need-returns
-unfolding rowOf
+unfolding lineOf
 returns c = rw (c .match .keys1)
 
 returns-2 : tie.Need-returns-2
 returns-2 c = sym (word-row Sim100 (c .before .before .before .args .mux) (omega arith) (omega arith))
 
 returns-3 : tie.Need-returns-3
-unfolding rowOf
+unfolding lineOf
 returns-3 c =
     rw (c .measurement-row .ensures)
     (sym (six (λ m. rowOf Sim100 m ≡ Listed (measurementRow m) 8 1) refl refl refl refl refl refl (c .before .before .before .before .before .before .args .mux) (omega arith) (omega arith)))
 
 returns-4 : tie.Need-returns-4
-unfolding rowOf
+unfolding lineOf
 returns-4 c =
     let none : c .before .before .args .mux ≡ 0 = omega arith in
     rw none

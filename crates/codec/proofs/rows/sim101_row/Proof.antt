@@ -3,24 +3,24 @@ use mathlib.Core.Path.{_≡_, refl, sym}
 use native.Mathlib.Omega.{arith}
 use Rattle.codec.specs.declared.rows.Kind.the-variants.{Sim101}
 use Rattle.codec.specs.declared.rows.Listing.the-variants.{Listed}
-use Rattle.codec.specs.Table.{rowOf, measurementRow}
+use Rattle.codec.specs.Table.{lineOf, rowOf, measurementRow}
 use Rattle.codec.proofs.Table.{word-row, six, unlisted, apart}
 use Rattle.codec.proofs.rows.sim101_row.Statement.{statement}
 use Rattle.codec.proofs.rows.sim101_row.Tie as tie
 
 returns : tie.Need-returns
-unfolding rowOf
+unfolding lineOf
 returns c = rw (c .match .keys1)
 
 returns-2 : tie.Need-returns-2
-unfolding rowOf
+unfolding lineOf
 returns-2 c = rw (c .match .keys2)
 
 returns-3 : tie.Need-returns-3
 returns-3 c = sym (word-row Sim101 (c .before .before .before .args .mux) (omega arith) (omega arith))
 
 returns-4 : tie.Need-returns-4
-unfolding rowOf
+unfolding lineOf
 returns-4 c =
     rw (c .measurement-row .ensures)
     (sym
@@ -29,7 +29,7 @@ returns-4 c =
     (c .before .before .before .before .before .before .args .mux) (omega arith) (omega arith) (c .before .before .before .before .before .match .rest .1)))
 
 returns-5 : tie.Need-returns-5
-unfolding rowOf
+unfolding lineOf
 returns-5 c =
     let none : c .before .before .args .mux ≡ 0 = omega arith in
     rw none

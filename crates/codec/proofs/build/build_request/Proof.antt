@@ -1,8 +1,8 @@
--- `codec::request::build_request` meets its contract: each test is a case of the definition. Assumes nothing.
+-- `codec::build::build_request` meets its contract: each test is a case of the definition. Assumes nothing.
 use mathlib.Core.Path.{sym, _∙_}
 use Rattle.codec.specs.Requests.{buildRequest}
-use Rattle.codec.proofs.request.build_request.Statement.{statement}
-use Rattle.codec.proofs.request.build_request.Tie as tie
+use Rattle.codec.proofs.build.build_request.Statement.{statement}
+use Rattle.codec.proofs.build.build_request.Tie as tie
 
 returns : tie.Need-returns
 unfolding buildRequest

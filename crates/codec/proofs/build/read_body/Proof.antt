@@ -1,7 +1,7 @@
--- `codec::request::read_body` meets its contract: by the kind. Assumes nothing.
+-- `codec::build::read_body` meets its contract: by the kind. Assumes nothing.
 use borrow.Author.Needs.{needs}
-use Rattle.codec.proofs.request.read_body.Statement.{statement}
-use Rattle.codec.proofs.request.read_body.Tie as tie
+use Rattle.codec.proofs.build.read_body.Statement.{statement}
+use Rattle.codec.proofs.build.read_body.Tie as tie
 
 returns : tie.Need-returns
 returns c = rw (c .enum-told .given .1)

@@ -1,6 +1,6 @@
--- `codec::request::read_request_row` meets its contract: each test is a case of the definition. Assumes nothing.
-use Rattle.codec.proofs.request.read_request_row.Statement.{statement}
-use Rattle.codec.proofs.request.read_request_row.Tie as tie
+-- `codec::read::read_request_row` meets its contract: each test is a case of the definition. Assumes nothing.
+use Rattle.codec.proofs.read.read_request_row.Statement.{statement}
+use Rattle.codec.proofs.read.read_request_row.Tie as tie
 
 returns : tie.Need-returns
 returns c = rw (c .if1 .taken)

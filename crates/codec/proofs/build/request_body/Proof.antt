@@ -1,7 +1,7 @@
--- `codec::request::request_body` meets its contract: each request is a case of the definition. Assumes nothing.
+-- `codec::build::request_body` meets its contract: each request is a case of the definition. Assumes nothing.
 use borrow.Author.Needs.{needs}
-use Rattle.codec.proofs.request.request_body.Statement.{statement}
-use Rattle.codec.proofs.request.request_body.Tie as tie
+use Rattle.codec.proofs.build.request_body.Statement.{statement}
+use Rattle.codec.proofs.build.request_body.Tie as tie
 
 returns : tie.Need-returns
 returns c = rw (c .before .enum-told .given .1) (c .read-body .ensures)

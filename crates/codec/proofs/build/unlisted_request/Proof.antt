@@ -1,7 +1,7 @@
--- `codec::request::unlisted_request` meets its contract: each request is a case of the definition. Assumes nothing.
+-- `codec::build::unlisted_request` meets its contract: each request is a case of the definition. Assumes nothing.
 use borrow.Author.Needs.{needs}
-use Rattle.codec.proofs.request.unlisted_request.Statement.{statement}
-use Rattle.codec.proofs.request.unlisted_request.Tie as tie
+use Rattle.codec.proofs.build.unlisted_request.Statement.{statement}
+use Rattle.codec.proofs.build.unlisted_request.Tie as tie
 
 returns-7 : tie.Need-returns-7
 returns-7 c = rw (c .before .request .given .1)

@@ -1,9 +1,9 @@
--- `codec::request::read_request` meets its contract: by the row of the frame. Assumes nothing.
+-- `codec::read::read_request` meets its contract: by the row of the frame. Assumes nothing.
 use mathlib.Core.Path.{sym, _∙_}
 use Rattle.codec.specs.Requests.{readRequest}
 use borrow.Author.Needs.{needs}
-use Rattle.codec.proofs.request.read_request.Statement.{statement}
-use Rattle.codec.proofs.request.read_request.Tie as tie
+use Rattle.codec.proofs.read.read_request.Statement.{statement}
+use Rattle.codec.proofs.read.read_request.Tie as tie
 
 returns : tie.Need-returns
 unfolding readRequest

@@ -1,7 +1,7 @@
--- `codec::request::request_of` meets its contract: each row is a case of the definition. Assumes nothing.
+-- `codec::read::request_of` meets its contract: each row is a case of the definition. Assumes nothing.
 use borrow.Author.Needs.{needs}
-use Rattle.codec.proofs.request.request_of.Statement.{statement}
-use Rattle.codec.proofs.request.request_of.Tie as tie
+use Rattle.codec.proofs.read.request_of.Statement.{statement}
+use Rattle.codec.proofs.read.request_of.Tie as tie
 
 returns-7 : tie.Need-returns-7
 returns-7 c = rw (c .before .enum-told7 .given .1)
