@@ -1,2 +1,4 @@
 -- The laws of the codec's definitions, and the proofs of its promise.
 pub mod Table
+pub mod Conditions
+pub mod Reading

@@ -4,3 +4,5 @@ pub mod Table
 pub mod Reports
 pub mod Building
 pub mod Requests
+pub mod Answers
+pub mod Promise

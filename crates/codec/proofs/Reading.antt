@@ -1,0 +1,188 @@
+-- Reading: what is read is what the table says, and what is refused is refused by the first condition that holds. Assumes nothing.
+use Prim.Native.Nat.{ℕ, _+_, _*_, _/_, _%_, _<_, _≤_}
+use mathlib.Core.Path.{_≡_, refl, ap, sym, _∙_}
+use mathlib.Core.Bool.{Bool, true, false, not, cond, _&&_, _||_}
+use mathlib.Core.List.{List, [], _∷_, map}
+use mathlib.Core.Option.{Option, none, some}
+use native.Mathlib.Omega.{arith}
+use borrow.Author.Tests.{le-leb, lt-leb}
+use lib.Dec.{leb, eqb, lit≤}
+use lib.IntN.{ℤ, pos}
+use lib.ListN.{getD, drop}
+use Rattle.words.proofs.Tests.{by-test, decided}
+use Rattle.words.specs.Words.{wordOf}
+use Rattle.words.specs.declared.Order.the-variants.{Big}
+use Rattle.refusal.specs.Refusals.{numberOf}
+use Rattle.refusal.specs.declared.Refusal.{Refusal}
+use Rattle.refusal.specs.declared.Refusal.the-variants.{OverLimits, NotExpected, NotListed, WrongLength, WrongStatus}
+use Rattle.codec.specs.declared.frame.Frame.{Frame}
+use Rattle.codec.specs.declared.rows.Kind.{Kind}
+use Rattle.codec.specs.declared.rows.Kind.the-variants.{Sim100, Sim101}
+use Rattle.codec.specs.declared.rows.Row.{Row}
+use Rattle.codec.specs.declared.rows.Listing.{Listing}
+use Rattle.codec.specs.declared.rows.Listing.the-variants.{Refused as Unlisted}
+use Rattle.codec.specs.declared.report.ReportReading.the-variants.{Read, Refused}
+use Rattle.codec.specs.declared.request.RequestReading.the-variants.{Read as Asked}
+use Rattle.codec.specs.Frames.{overLimits, notExpected, muxOf}
+use Rattle.codec.specs.Table.{Field, Line, unsigned, estimatesOf, voltageAt, flagsOf, valueIn, numberAt, table, own, lineOf, asRow, rowOf, frameRow}
+use Rattle.codec.specs.Answers.{Told, refusal, values, toldReport, toldRequest, reportMux, reportValues}
+use Rattle.codec.specs.Reports.{voltageOf, flagsIn, badStatus, hasStatus, wrongStatus, reportOf, readRow, reportIn, readReport}
+use Rattle.codec.specs.Requests.{requestOf, requestIn, readRequest}
+use Rattle.codec.specs.Building.{isSim100}
+use Rattle.codec.specs.Promise.{Condition, _when_, isNone, notListed, reportLength, requestLengthOf, reportFields, requestFields, fiveOf, reportConditions, requestConditions, tableReport, tableRequest, ReportRead, RequestRead}
+use Rattle.codec.proofs.Table.{Each, by-line, just}
+use Rattle.codec.proofs.Conditions.{pick, pick-none, pick-exactly}
+
+-- ---- fields
+
+one-byte : (b : List ℕ) (place : ℕ) → numberAt b place 1 ≡ getD b place 0
+one-byte b place = omega arith
+
+voltage-field : (k : Kind) (b : List ℕ) (place : ℕ) → valueIn b (voltageAt k place) ≡ voltageOf k (numberAt b place 2)
+voltage-field Sim100 b place = refl
+voltage-field Sim101 b place = refl
+
+estimates-fields : (b : List ℕ) (x y : Field) (u v : ℤ) → valueIn b x ≡ u → valueIn b y ≡ v → pos (getD b 1 0) ∷ u ∷ pos (getD b 4 0) ∷ v ∷ pos (getD b 7 0) ∷ [] ≡ map (valueIn b) (estimatesOf x y)
+estimates-fields b x y u v p q = rw (one-byte b 1, one-byte b 4, one-byte b 7, p, q) refl
+
+flags-fields : (k : Kind) (b : List ℕ) → pos (flagsIn k b .status) ∷ pos (flagsIn k b .flags) ∷ [] ≡ map (valueIn b) (flagsOf k)
+flags-fields Sim100 b = rw (one-byte b 1, one-byte b 2) refl
+flags-fields Sim101 b = rw (one-byte b 1) refl
+
+-- ---- 5
+
+five-in : (k : Kind) (m status : ℕ) → 0xE0 ≤ m → m ≤ 0xE5 → badStatus k status ≡ fiveOf k m status
+five-in Sim100 m status h l = rw (le-leb 0xE0 m h, le-leb m 0xE5 l) refl
+five-in Sim101 m status h l = refl
+
+five-below : (k : Kind) (m status : ℕ) → m < 0xE0 → false ≡ fiveOf k m status
+five-below Sim100 m status h = rw (lt-leb 0xE0 m h) refl
+five-below Sim101 m status h = refl
+
+-- ---- reports, line by line
+
+module _ (k : Kind) (f : Frame) where
+  abbrev Says : ℕ → Option Line → Type 0
+  Says m o =
+      m ≡ muxOf f →
+      toldReport (reportIn k f (asRow o))
+      ≡ pick
+        ((3 when isNone o) ∷ (4 when not (eqb (f .length) (reportLength o))) ∷ (5 when fiveOf k m (getD (f .bytes) 1 0)) ∷ [])
+        (values m (map (valueIn (f .bytes)) (reportFields o)))
+
+  -- a line says it where it is right about the status and about the values
+  says : (m : ℕ) (l : Line) → wrongStatus k (l .row) (getD (f .bytes) 1 0) ≡ fiveOf k m (getD (f .bytes) 1 0) → (m ≡ muxOf f → toldReport (Read (reportOf k (l .row) (f .bytes))) ≡ values m (map (valueIn (f .bytes)) (l .fields))) → Says m (some l)
+  says m l status fields e =
+      rw (sym status)
+      (decided (not (eqb (f .length) (l .report)))
+      (λ t. rw t refl)
+      (λ t. decided (wrongStatus k (l .row) (getD (f .bytes) 1 0)) (λ u. rw (t, u) refl) (λ u. rw (t, u) (fields e))))
+
+  abbrev L : ℕ → Line
+  L i = getD (table k) i (own k)
+
+  alone : (x : ℕ) (l : Line) → Says x (some l) → (m : ℕ) → x ≤ m → m ≤ x → Says m (some l)
+  alone x l p = just x (λ (m : ℕ). Says m (some l)) p
+
+  -- E0 to E5
+  measured : (x i : ℕ) → 0xE0 ≤ x → x ≤ 0xE5 → hasStatus (L i .row) ≡ true → toldReport (Read (reportOf k (L i .row) (f .bytes))) ≡ values x (map (valueIn (f .bytes)) (L i .fields)) → (m : ℕ) → x ≤ m → m ≤ x → Says m (some (L i))
+  measured x i h l has fields =
+      alone x (L i) (says x (L i) (rw has (five-in k x (getD (f .bytes) 1 0) h l)) (λ e. fields))
+
+  word : (m : ℕ) → 0x01 ≤ m → m ≤ 0x0B → Says m (some (L 6))
+  word m h l =
+      says m (L 6) (five-below k m (getD (f .bytes) 1 0) (omega arith))
+      (λ e. ap (λ (x : ℕ). values x (map (valueIn (f .bytes)) (L 6 .fields))) (sym e))
+
+own-line : (k : Kind) (f : Frame) → Each (Says k f) (own k ∷ [])
+own-line Sim100 f = (alone Sim100 f 0xF0 (own Sim100) (says Sim100 f 0xF0 (own Sim100) refl (λ e. refl)), tt)
+own-line Sim101 f = (alone Sim101 f 0x80 (own Sim101) (says Sim101 f 0x80 (own Sim101) refl (λ e. refl)), tt)
+
+lines : (k : Kind) (f : Frame) → Each (Says k f) (table k)
+lines k f =
+    let b = f .bytes in
+    let e0 = estimates-fields b (unsigned 2 2) (unsigned 5 2) (pos (numberAt b 2 2)) (pos (numberAt b 5 2)) refl refl in
+    let e3 = estimates-fields b (voltageAt k 2) (voltageAt k 5) (voltageOf k (numberAt b 2 2)) (voltageOf k (numberAt b 5 2)) (voltage-field k b 2) (voltage-field k b 5) in
+    let e4 = estimates-fields b (voltageAt k 2) (unsigned 5 2) (voltageOf k (numberAt b 2 2)) (pos (numberAt b 5 2)) (voltage-field k b 2) refl in
+    (measured k f 0xE0 0 (lit≤ tt) (lit≤ tt) refl (ap (values 0xE0) e0),
+    (measured k f 0xE1 1 (lit≤ tt) (lit≤ tt) refl (ap (values 0xE1) e0),
+    (measured k f 0xE2 2 (lit≤ tt) (lit≤ tt) refl (ap (values 0xE2) e0),
+    (measured k f 0xE3 3 (lit≤ tt) (lit≤ tt) refl (ap (values 0xE3) e3),
+    (measured k f 0xE4 4 (lit≤ tt) (lit≤ tt) refl (ap (values 0xE4) e4),
+    (measured k f 0xE5 5 (lit≤ tt) (lit≤ tt) refl (ap (values 0xE5) (flags-fields k b)),
+    (word k f, own-line k f)))))))
+
+-- ---- 1, 2, 3: the same for reports and requests
+
+module _ (told : Listing → Told) (k : Kind) (expected : ℕ) (f : Frame) (cs : List Condition) (t : Told) where
+  after-limits : ((why : Refusal) → told (Unlisted why) ≡ refusal (numberOf why)) → told (rowOf k (muxOf f)) ≡ pick ((3 when isNone (lineOf k (muxOf f))) ∷ cs) t → told (frameRow k expected f) ≡ pick ((1 when overLimits f) ∷ (2 when notExpected expected f) ∷ (3 when notListed k f) ∷ cs) t
+  after-limits why row =
+      decided (overLimits f)
+      (λ x. rw x (why OverLimits))
+      (λ x. decided (notExpected expected f)
+      (λ y. rw (x, y) (why NotExpected))
+      (λ y. decided (eqb (f .length) 0)
+      (λ z. rw (x, y, z) (why NotListed))
+      (λ z. rw (x, y, z) row)))
+
+report-told : (k : Kind) (expected : ℕ) (f : Frame) → toldReport (readReport k expected f) ≡ pick (reportConditions k expected f) (tableReport k f)
+unfolding readReport
+report-told k expected f =
+    after-limits (λ (l : Listing). toldReport (reportIn k f l)) k expected f (drop 3 (reportConditions k expected f)) (tableReport k f)
+    (λ why. refl)
+    (by-line (Says k f) k (muxOf f) (λ e. refl) (lines k f) refl)
+
+pub report-read : (k : Kind) (expected : ℕ) (f : Frame) → ReportRead k expected f
+report-read k expected f =
+    let cs = reportConditions k expected f in
+    record {
+      refused = λ n. rw (report-told k expected f) (pick-exactly cs (muxOf f) n (map (valueIn (f .bytes)) (reportFields (lineOf k (muxOf f)))));
+      answered = λ h. report-told k expected f ∙ pick-none cs (tableReport k f) h
+    }
+
+-- ---- requests, line by line
+
+module _ (f : Frame) where
+  abbrev Asks : ℕ → Option Line → Type 0
+  Asks m o =
+      m ≡ muxOf f →
+      toldRequest (requestIn f (asRow o))
+      ≡ pick
+        ((3 when isNone o) ∷ (4 when not (eqb (f .length) (requestLengthOf o))) ∷ [])
+        (values m (map (valueIn (f .bytes)) (requestFields o)))
+
+  asks : (m : ℕ) (l : Line) → (m ≡ muxOf f → toldRequest (Asked (requestOf (l .row) (f .bytes))) ≡ values m (map (valueIn (f .bytes)) (l .asked))) → Asks m (some l)
+  asks m l fields e =
+      decided (not (eqb (f .length) (l .request))) (λ t. rw t refl) (λ t. rw t (fields e))
+
+  asked : (x : ℕ) (l : Line) → toldRequest (Asked (requestOf (l .row) (f .bytes))) ≡ values x (map (valueIn (f .bytes)) (l .asked)) → (m : ℕ) → x ≤ m → m ≤ x → Asks m (some l)
+  asked x l fields = just x (λ (m : ℕ). Asks m (some l)) (asks x l (λ e. fields))
+
+  own-asked : (k : Kind) → Each Asks (own k ∷ [])
+  own-asked Sim100 = (asked 0xF0 (own Sim100) refl, tt)
+  own-asked Sim101 = (asked 0x80 (own Sim101) refl, tt)
+
+  asked-lines : (k : Kind) → Each Asks (table k)
+  asked-lines k =
+      (asked 0xE0 (L k f 0) refl,
+      (asked 0xE1 (L k f 1) refl,
+      (asked 0xE2 (L k f 2) refl,
+      (asked 0xE3 (L k f 3) refl,
+      (asked 0xE4 (L k f 4) refl,
+      (asked 0xE5 (L k f 5) refl,
+      ((λ m h l. asks m (L k f 6) (λ e. ap (λ (x : ℕ). values x []) (sym e))), own-asked k)))))))
+
+request-told : (k : Kind) (expected : ℕ) (f : Frame) → toldRequest (readRequest k expected f) ≡ pick (requestConditions k expected f) (tableRequest k f)
+unfolding readRequest
+request-told k expected f =
+    after-limits (λ (l : Listing). toldRequest (requestIn f l)) k expected f (drop 3 (requestConditions k expected f)) (tableRequest k f)
+    (λ why. refl)
+    (by-line (Asks f) k (muxOf f) (λ e. refl) (asked-lines f k) refl)
+
+pub request-read : (k : Kind) (expected : ℕ) (f : Frame) → RequestRead k expected f
+request-read k expected f =
+    let cs = requestConditions k expected f in
+    record {
+      refused = λ n. rw (request-told k expected f) (pick-exactly cs (muxOf f) n (map (valueIn (f .bytes)) (requestFields (lineOf k (muxOf f)))));
+      answered = λ h. request-told k expected f ∙ pick-none cs (tableRequest k f) h
+    }
