@@ -2,3 +2,4 @@
 pub mod Table
 pub mod Conditions
 pub mod Reading
+pub mod ReadsBack

@@ -66,15 +66,20 @@ estimatesBytes mux e =
     (mux ∷ e .status ∷ [])
     ++ (bytesOf Big 2 (e .first) ++ (e .«first_uncertainty» ∷ (bytesOf Big 2 (e .second) ++ (e .«second_uncertainty» ∷ []))))
 
+-- the patterns of the voltages, in the places of the estimates
+abbrev pub voltagesRaw : Voltages → Estimates
+voltagesRaw v =
+    record { status = v .status; first = patternOf 16 (v .vp); «first_uncertainty» = v .«vp_uncertainty»; second = patternOf 16 (v .vn); «second_uncertainty» = v .«vn_uncertainty» }
+
 abbrev pub voltagesBytes : Voltages → List ℕ
-voltagesBytes v =
-    estimatesBytes 0xE3
-    (record { status = v .status; first = patternOf 16 (v .vp); «first_uncertainty» = v .«vp_uncertainty»; second = patternOf 16 (v .vn); «second_uncertainty» = v .«vn_uncertainty» })
+voltagesBytes v = estimatesBytes 0xE3 (voltagesRaw v)
+
+abbrev pub batteryRaw : Battery → Estimates
+batteryRaw b =
+    record { status = b .status; first = patternOf 16 (b .vb); «first_uncertainty» = b .«vb_uncertainty»; second = b .«vb_max»; «second_uncertainty» = b .«vb_max_uncertainty» }
 
 abbrev pub batteryBytes : Battery → List ℕ
-batteryBytes b =
-    estimatesBytes 0xE4
-    (record { status = b .status; first = patternOf 16 (b .vb); «first_uncertainty» = b .«vb_uncertainty»; second = b .«vb_max»; «second_uncertainty» = b .«vb_max_uncertainty» })
+batteryBytes b = estimatesBytes 0xE4 (batteryRaw b)
 
 -- "SIM100 E5 bytes 3-7 are undefined: ignored on reading, zero when built"
 abbrev pub flagsBytes : Kind → ErrorFlags → List ℕ

@@ -113,3 +113,55 @@ pub record ReportRead (k : Kind) (expected : ℕ) (f : Frame) : Type 0 where
 pub record RequestRead (k : Kind) (expected : ℕ) (f : Frame) : Type 0 where
   pub refused : (n : ℕ) → toldRequest (readRequest k expected f) ≡ refusal n ↔ First n (requestConditions k expected f)
   pub answered : None (requestConditions k expected f) → toldRequest (readRequest k expected f) ≡ tableRequest k f
+
+-- ---- building
+
+-- what the types of the values already say
+abbrev pub HeldEstimates : Estimates → Type 0
+HeldEstimates e =
+    (e .status < 256)
+    × ((e .first < 65536) × ((e .«first_uncertainty» < 256) × ((e .second < 65536) × (e .«second_uncertainty» < 256))))
+
+abbrev pub HeldReport : Report → Type 0
+HeldReport (IsolationState e) = HeldEstimates e
+HeldReport (Resistances e) = HeldEstimates e
+HeldReport (Capacitances e) = HeldEstimates e
+HeldReport (PoleVoltages v) = (v .status < 256) × ((v .«vp_uncertainty» < 256) × (v .«vn_uncertainty» < 256))
+HeldReport (BatteryVoltage b) = (b .status < 256) × ((b .«vb_uncertainty» < 256) × ((b .«vb_max» < 65536) × (b .«vb_max_uncertainty» < 256)))
+HeldReport (Errors e) = (e .status < 256) × (e .flags < 65536)
+HeldReport (Word mux w) = (mux < 256) × (w < 2 ^ 32)
+HeldReport (Temperature z) = holds 32 z ≡ true
+HeldReport (WorkingVoltage v) = v < 65536
+
+abbrev pub HeldRequest : Request → Type 0
+HeldRequest ReadIsolationState = Unit
+HeldRequest ReadResistances = Unit
+HeldRequest ReadCapacitances = Unit
+HeldRequest ReadVoltages = Unit
+HeldRequest ReadBattery = Unit
+HeldRequest ReadErrorFlags = Unit
+HeldRequest (ReadWord mux) = mux < 256
+HeldRequest ReadTemperature = Unit
+HeldRequest (SetWorkingVoltage v) = v < 65536
+
+abbrev pub accepted : Frame → Built
+accepted f = record { answer = Accepted; frame = f }
+
+-- "Built frames read back as the same values."
+abbrev pub ReportReadsBack : Type 0
+ReportReadsBack = (k : Kind) (identifier : ℕ) (r : Report) (f : Frame) → HeldReport r → buildReport k identifier r ≡ accepted f → readReport k identifier f ≡ Read r
+
+abbrev pub RequestReadsBack : Type 0
+RequestReadsBack = (k : Kind) (identifier : ℕ) (r : Request) (f : Frame) → HeldRequest r → buildRequest k identifier r ≡ accepted f → readRequest k identifier f ≡ Asked r
+
+-- the frame with zeros from a place on
+abbrev pub cleared : ℕ → Frame → Frame
+cleared place f = record { extended = f .extended; identifier = f .identifier; length = f .length; bytes = take place (f .bytes) ++ replicate (8 - place) 0 }
+
+-- "A read frame builds back the same frame, except that SIM100 E5 gets zeros in 3-7 and a SIM101 request in 1-2." Bytes past
+-- the length are no part of the frame.
+abbrev pub ReportBuildsBack : Type 0
+ReportBuildsBack = (k : Kind) (expected : ℕ) (f : Frame) (r : Report) → Held f → readReport k expected f ≡ Read r → buildReport k expected r ≡ accepted (cleared (cond (isSim100 k && eqb (muxOf f) 0xE5) 3 (f .length)) f)
+
+abbrev pub RequestBuildsBack : Type 0
+RequestBuildsBack = (k : Kind) (expected : ℕ) (f : Frame) (r : Request) → Held f → readRequest k expected f ≡ Asked r → buildRequest k expected r ≡ accepted (cleared (cond (isSim100 k) (f .length) 1) f)

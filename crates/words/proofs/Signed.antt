@@ -3,12 +3,13 @@
 use Prim.Native.Nat.{ℕ, suc, _+_, _*_, _-_, _%_, _^_, _<_, _≤_}
 use mathlib.Core.Path.{_≡_, refl, ap, sym, _∙_}
 use mathlib.Core.Bool.{Bool, true, false, not, _||_, or-false}
-use native.Mathlib.Nat.{pow-suc, mod-eq-of-lt}
+use native.Mathlib.Nat.{pow-suc, mod-eq-of-lt, mod-lt}
 use native.Mathlib.Omega.{arith}
 use borrow.Author.Tests.{lt-ltb, le-ltb, lt-leb, le-leb, ltb-true, ltb-false}
 use lib.Dec.{T, leb, ltb, leb·suc-zero}
 use lib.IntN.{ℤ, pos, negsuc, natAbs}
 use lib.Signed.{ltZ, mag, nonNeg}
+use lib.Pow.{pow-pos}
 use mir.Syntax.{w32}
 use mir.Facts.{toZ-ofZ}
 use mir.Val.{Fits, SFits, toZ, ofZ}
@@ -43,6 +44,10 @@ pattern-signed w n h =
     by-test (ltb (n + n) (2 ^ suc w)) (λ (t : Bool). patternOf (suc w) (signedBy t (suc w) n) ≡ n)
     (mod-eq-of-lt h)
     (let e : (2 ^ suc w - 1 - n) % 2 ^ suc w ≡ 2 ^ suc w - 1 - n = mod-eq-of-lt (omega arith) in rw e (omega arith))
+
+pub pattern-fits : (width : ℕ) (z : ℤ) → patternOf width z < 2 ^ width
+pattern-fits width (pos n) = mod-lt n (pow-pos width)
+pattern-fits width (negsuc k) = omega (arith, pow-pos width)
 
 -- ---- the code's reading: a pattern of the lower half as it is, one of the upper half by a complement
 

@@ -1,0 +1,156 @@
+-- Built frames read back as the same values. Assumes nothing.
+use Prim.Native.Nat.{ℕ, _+_, _*_, _/_, _%_, _^_, _<_, _≤_}
+use mathlib.Core.Path.{_≡_, refl, ap, sym, subst, _∙_}
+use mathlib.Core.Bool.{Bool, true, false, not, cond, _&&_, _||_}
+use mathlib.Core.List.{List, [], _∷_, _++_}
+use mathlib.Core.Option.{Option, none, some}
+use native.Mathlib.Nat.{mod-eq-of-lt}
+use native.Mathlib.Omega.{arith}
+use borrow.Author.Tests.{eq-eqb, ltb-true, ltb-false, not-false}
+use lib.Dec.{ltb, leb, eqb}
+use lib.IntN.{ℤ, pos, negsuc}
+use lib.ListN.{getD, length}
+use Rattle.words.proofs.Tests.{decided}
+use Rattle.words.proofs.Words.{word-bytes}
+use Rattle.words.proofs.Signed.{signed-pattern, pattern-fits}
+use Rattle.words.specs.Signed.{signedOf, patternOf, holds, holdsUnsigned}
+use Rattle.words.specs.declared.Order.the-variants.{Big}
+use Rattle.refusal.specs.declared.Refusal.{Refusal}
+use Rattle.refusal.specs.declared.Refusal.the-variants.{OverLimits, NotListed, DoesNotFit}
+use Rattle.codec.specs.declared.frame.Frame.{Frame}
+use Rattle.codec.specs.declared.frame.Built.{Built}
+use Rattle.codec.specs.declared.frame.Answer.the-variants.{Accepted, Refused as NotBuilt}
+use Rattle.codec.specs.declared.rows.Kind.{Kind}
+use Rattle.codec.specs.declared.rows.Kind.the-variants.{Sim100, Sim101}
+use Rattle.codec.specs.declared.rows.Row.{Row}
+use Rattle.codec.specs.declared.rows.Row.the-variants.{MuxE0, MuxE1, MuxE2, MuxE3, MuxE4, MuxE5, Mux01To0B, Mux80, MuxF0}
+use Rattle.codec.specs.declared.rows.Listing.the-variants.{Listed}
+use Rattle.codec.specs.declared.report.Estimates.{Estimates}
+use Rattle.codec.specs.declared.report.Voltages.{Voltages}
+use Rattle.codec.specs.declared.report.Battery.{Battery}
+use Rattle.codec.specs.declared.report.ErrorFlags.{ErrorFlags}
+use Rattle.codec.specs.declared.report.Report.{Report}
+use Rattle.codec.specs.declared.report.Report.the-variants.{IsolationState, Resistances, Capacitances, PoleVoltages, BatteryVoltage, Errors, Word, Temperature, WorkingVoltage}
+use Rattle.codec.specs.declared.report.ReportReading.the-variants.{Read}
+use Rattle.codec.specs.Frames.{muxOf, bodyOf, frameOf, frameWith, refused}
+use Rattle.codec.specs.Table.{rowOf, lineOf, frameRow, requestLength}
+use Rattle.codec.specs.Reports.{voltageOf, badStatus, wrongStatus, estimatesIn, voltagesIn, batteryIn, flagsIn, reportOf, readReport}
+use Rattle.codec.specs.Building.{isSim100, unlisted, voltageMisfit, flagsMisfit, misfit, estimatesBytes, voltagesRaw, voltagesBytes, batteryRaw, batteryBytes, flagsBytes, wordBytes, voltageBytes, reportBytes, buildReport}
+use Rattle.codec.specs.Promise.{HeldReport, HeldEstimates, accepted, ReportReadsBack}
+use Rattle.codec.proofs.Table.{word-row}
+
+-- ---- the values of a row come back from its bytes
+
+or-left : (a b : Bool) → (a || b) ≡ false → a ≡ false
+or-left true b e = e
+or-left false b e = refl
+
+or-right : (a b : Bool) → (a || b) ≡ false → b ≡ false
+or-right true b e = let z : _≡_ {A = ℕ} 0 1 = cc in absurd (omega arith)
+or-right false b e = e
+
+voltage-back : (k : Kind) (z : ℤ) → voltageMisfit k z ≡ false → voltageOf k (patternOf 16 z) ≡ z
+voltage-back Sim100 (pos n) h = ap pos (mod-eq-of-lt (ltb-true n 65536 (not-false (ltb n 65536) h)))
+voltage-back Sim100 (negsuc m) h = let z : _≡_ {A = ℕ} 0 1 = cc in absurd (omega arith)
+voltage-back Sim101 z h = signed-pattern 15 z (not-false (holds 16 z) h)
+
+estimates-back : (mux : ℕ) (e : Estimates) → e .first < 65536 → e .second < 65536 → estimatesIn (bodyOf (estimatesBytes mux e) .bytes) ≡ e
+estimates-back mux e h l = rw (word-bytes Big 2 (e .first) h, word-bytes Big 2 (e .second) l) refl
+
+voltages-back : (k : Kind) (v : Voltages) → voltageMisfit k (v .vp) ≡ false → voltageMisfit k (v .vn) ≡ false → voltagesIn k (bodyOf (voltagesBytes v) .bytes) ≡ v
+voltages-back k v h l =
+    rw (word-bytes Big 2 (patternOf 16 (v .vp)) (pattern-fits 16 (v .vp)), word-bytes Big 2 (patternOf 16 (v .vn)) (pattern-fits 16 (v .vn)), voltage-back k (v .vp) h, voltage-back k (v .vn) l)
+    refl
+
+battery-back : (k : Kind) (b : Battery) → voltageMisfit k (b .vb) ≡ false → b .«vb_max» < 65536 → batteryIn k (bodyOf (batteryBytes b) .bytes) ≡ b
+battery-back k b h l =
+    rw (word-bytes Big 2 (patternOf 16 (b .vb)) (pattern-fits 16 (b .vb)), word-bytes Big 2 (b .«vb_max») l, voltage-back k (b .vb) h)
+    refl
+
+not-accepted : {X : Type 0} (why : Refusal) (f : Frame) → refused why ≡ accepted f → X
+not-accepted why f e =
+    let a : NotBuilt why ≡ Accepted = ap (λ (b : Built). b .answer) e in
+    let z : _≡_ {A = ℕ} 0 1 = cc in
+    absurd (omega arith)
+
+-- ---- a built frame is read by the row that it was built by
+
+module _ (k : Kind) (identifier : ℕ) (low : ltb 0x1FFFFFFF identifier ≡ false) where
+  opened : (bs : List ℕ) (row : Row) (report request : ℕ) → ltb 8 (length bs) ≡ false → eqb (length bs) 0 ≡ false → rowOf k (getD (bodyOf bs .bytes) 0 0) ≡ Listed row report request → frameRow k identifier (frameOf identifier (bodyOf bs)) ≡ Listed row report request
+  opened bs row report request h l e = rw (h, low, eq-eqb identifier identifier refl, l) e
+
+  read-as : (bs : List ℕ) (row : Row) (request : ℕ) → ltb 8 (length bs) ≡ false → eqb (length bs) 0 ≡ false → rowOf k (getD (bodyOf bs .bytes) 0 0) ≡ Listed row (length bs) request → wrongStatus k row (getD (bodyOf bs .bytes) 1 0) ≡ false → readReport k identifier (frameOf identifier (bodyOf bs)) ≡ Read (reportOf k row (bodyOf bs .bytes))
+  unfolding readReport
+  read-as bs row request h l e status =
+      rw (opened bs row (length bs) request h l e, eq-eqb (length bs) (length bs) refl, status) refl
+
+  -- E0 to E4
+  read-estimates : (mux : ℕ) (row : Row) (e : Estimates) → rowOf k mux ≡ Listed row 8 (requestLength k) → wrongStatus k row (e .status) ≡ false → readReport k identifier (frameOf identifier (bodyOf (estimatesBytes mux e))) ≡ Read (reportOf k row (bodyOf (estimatesBytes mux e) .bytes))
+  read-estimates mux row e listed status =
+      read-as (estimatesBytes mux e) row (requestLength k) refl refl listed status
+
+-- ---- reports
+
+false-true : {X : Type 0} → true ≡ false → X
+false-true e = let z : _≡_ {A = ℕ} 0 1 = cc in absurd (omega arith)
+
+module _ (identifier : ℕ) (low : ltb 0x1FFFFFFF identifier ≡ false) where
+  read-flags : (k : Kind) (e : ErrorFlags) → badStatus k (e .status) ≡ false → flagsMisfit k (e .flags) ≡ false → e .flags < 65536 → readReport k identifier (frameOf identifier (bodyOf (flagsBytes k e))) ≡ Read (Errors e)
+  unfolding lineOf
+  read-flags Sim100 e status fits h =
+      read-as Sim100 identifier low (flagsBytes Sim100 e) MuxE5 1 refl refl refl status
+      ∙ ap (λ (n : ℕ). Read (Errors (record { status = e .status; flags = n }))) (mod-eq-of-lt (omega (arith, ltb-false 255 (e .flags) fits)))
+  read-flags Sim101 e status fits h =
+      read-as Sim101 identifier low (flagsBytes Sim101 e) MuxE5 3 refl refl refl status
+      ∙ ap (λ (n : ℕ). Read (Errors (record { status = e .status; flags = n }))) (word-bytes Big 2 (e .flags) h)
+
+  read-temperature : (k : Kind) (z : ℤ) → isSim100 k ≡ false → holds 32 z ≡ true → readReport k identifier (frameOf identifier (bodyOf (wordBytes 0x80 (patternOf 32 z)))) ≡ Read (Temperature z)
+  unfolding lineOf
+  read-temperature Sim100 z u h = false-true u
+  read-temperature Sim101 z u h =
+      read-as Sim101 identifier low (wordBytes 0x80 (patternOf 32 z)) Mux80 3 refl refl refl refl
+      ∙ ap (λ (x : ℤ). Read (Temperature x)) (ap (signedOf 32) (word-bytes Big 4 (patternOf 32 z) (pattern-fits 32 z)) ∙ signed-pattern 31 z h)
+
+  read-voltage : (k : Kind) (v : ℕ) → not (isSim100 k) ≡ false → v < 65536 → readReport k identifier (frameOf identifier (bodyOf (voltageBytes v))) ≡ Read (WorkingVoltage v)
+  unfolding lineOf
+  read-voltage Sim100 v u h =
+      read-as Sim100 identifier low (voltageBytes v) MuxF0 3 refl refl refl refl
+      ∙ ap (λ (n : ℕ). Read (WorkingVoltage n)) (word-bytes Big 2 v h)
+  read-voltage Sim101 v u h = false-true u
+
+  read-report : (k : Kind) (r : Report) → unlisted k r ≡ false → misfit k r ≡ false → HeldReport r → readReport k identifier (frameOf identifier (bodyOf (reportBytes k r))) ≡ Read r
+  unfolding lineOf
+  read-report k (IsolationState e) u m h =
+      read-estimates k identifier low 0xE0 MuxE0 e refl m ∙ ap (λ (x : Estimates). Read (IsolationState x)) (estimates-back 0xE0 e (h .1 .0) (h .1 .1 .1 .0))
+  read-report k (Resistances e) u m h =
+      read-estimates k identifier low 0xE1 MuxE1 e refl m ∙ ap (λ (x : Estimates). Read (Resistances x)) (estimates-back 0xE1 e (h .1 .0) (h .1 .1 .1 .0))
+  read-report k (Capacitances e) u m h =
+      read-estimates k identifier low 0xE2 MuxE2 e refl m ∙ ap (λ (x : Estimates). Read (Capacitances x)) (estimates-back 0xE2 e (h .1 .0) (h .1 .1 .1 .0))
+  read-report k (PoleVoltages v) u m h =
+      let first = or-left (badStatus k (v .status) || voltageMisfit k (v .vp)) (voltageMisfit k (v .vn)) m in
+      read-estimates k identifier low 0xE3 MuxE3 (voltagesRaw v) refl (or-left (badStatus k (v .status)) (voltageMisfit k (v .vp)) first)
+      ∙ ap (λ (x : Voltages). Read (PoleVoltages x)) (voltages-back k v (or-right (badStatus k (v .status)) (voltageMisfit k (v .vp)) first) (or-right (badStatus k (v .status) || voltageMisfit k (v .vp)) (voltageMisfit k (v .vn)) m))
+  read-report k (BatteryVoltage b) u m h =
+      read-estimates k identifier low 0xE4 MuxE4 (batteryRaw b) refl (or-left (badStatus k (b .status)) (voltageMisfit k (b .vb)) m)
+      ∙ ap (λ (x : Battery). Read (BatteryVoltage x)) (battery-back k b (or-right (badStatus k (b .status)) (voltageMisfit k (b .vb)) m) (h .1 .1 .0))
+  read-report k (Errors e) u m h =
+      read-flags k e (or-left (badStatus k (e .status)) (flagsMisfit k (e .flags)) m) (or-right (badStatus k (e .status)) (flagsMisfit k (e .flags)) m) (h .1)
+  read-report k (Word mux w) u m h =
+      read-as k identifier low (wordBytes mux w) Mux01To0B (requestLength k) refl refl
+      (word-row k mux (ltb-false mux 0x01 (or-left (ltb mux 0x01) (ltb 0x0B mux) u)) (ltb-false 0x0B mux (or-right (ltb mux 0x01) (ltb 0x0B mux) u)))
+      refl
+      ∙ ap (λ (n : ℕ). Read (Word mux n)) (word-bytes Big 4 w (h .1))
+  read-report k (Temperature z) u m h = read-temperature k z u h
+  read-report k (WorkingVoltage v) u m h = read-voltage k v u h
+
+pub report-reads-back : ReportReadsBack
+unfolding buildReport
+report-reads-back k identifier r f h e =
+    decided (ltb 0x1FFFFFFF identifier)
+    (λ x. not-accepted OverLimits f (rw x at e))
+    (λ x. decided (unlisted k r)
+    (λ y. not-accepted NotListed f (rw (x, y) at e))
+    (λ y. decided (misfit k r)
+    (λ z. not-accepted DoesNotFit f (rw (x, y, z) at e))
+    (λ z. let q : frameWith identifier (bodyOf (reportBytes k r)) ≡ accepted f = rw (x, y, z) at e in
+      subst (λ (g : Frame). readReport k identifier g ≡ Read r) (ap (λ (b : Built). b .frame) q) (read-report identifier x k r y z h))))
