@@ -9,7 +9,7 @@ use native.Mathlib.Omega.{arith}
 use borrow.Author.Tests.{eq-eqb, ltb-true, ltb-false, not-false}
 use lib.Dec.{ltb, leb, eqb}
 use lib.IntN.{ℤ, pos, negsuc}
-use lib.ListN.{getD, length}
+use lib.ListN.{getD, length, replicate}
 use Rattle.words.proofs.Tests.{decided}
 use Rattle.words.proofs.Words.{word-bytes}
 use Rattle.words.proofs.Signed.{signed-pattern, pattern-fits}
@@ -32,11 +32,15 @@ use Rattle.codec.specs.declared.report.ErrorFlags.{ErrorFlags}
 use Rattle.codec.specs.declared.report.Report.{Report}
 use Rattle.codec.specs.declared.report.Report.the-variants.{IsolationState, Resistances, Capacitances, PoleVoltages, BatteryVoltage, Errors, Word, Temperature, WorkingVoltage}
 use Rattle.codec.specs.declared.report.ReportReading.the-variants.{Read}
+use Rattle.codec.specs.declared.request.Request.{Request}
+use Rattle.codec.specs.declared.request.Request.the-variants.{ReadIsolationState, ReadResistances, ReadCapacitances, ReadVoltages, ReadBattery, ReadErrorFlags, ReadWord, ReadTemperature, SetWorkingVoltage}
+use Rattle.codec.specs.declared.request.RequestReading.the-variants.{Read as Asked}
+use Rattle.codec.specs.Requests.{requestOf, readRequest, unlistedRequest, readBytes, requestBytes, buildRequest}
 use Rattle.codec.specs.Frames.{muxOf, bodyOf, frameOf, frameWith, refused}
-use Rattle.codec.specs.Table.{rowOf, lineOf, frameRow, requestLength}
+use Rattle.codec.specs.Table.{rowOf, lineOf, frameRow, requestLength, flagsLength}
 use Rattle.codec.specs.Reports.{voltageOf, badStatus, wrongStatus, estimatesIn, voltagesIn, batteryIn, flagsIn, reportOf, readReport}
 use Rattle.codec.specs.Building.{isSim100, unlisted, voltageMisfit, flagsMisfit, misfit, estimatesBytes, voltagesRaw, voltagesBytes, batteryRaw, batteryBytes, flagsBytes, wordBytes, voltageBytes, reportBytes, buildReport}
-use Rattle.codec.specs.Promise.{HeldReport, HeldEstimates, accepted, ReportReadsBack}
+use Rattle.codec.specs.Promise.{HeldReport, HeldRequest, accepted, ReportReadsBack, RequestReadsBack}
 use Rattle.codec.proofs.Table.{word-row}
 
 -- ---- the values of a row come back from its bytes
@@ -154,3 +158,52 @@ report-reads-back k identifier r f h e =
     (λ z. not-accepted DoesNotFit f (rw (x, y, z) at e))
     (λ z. let q : frameWith identifier (bodyOf (reportBytes k r)) ≡ accepted f = rw (x, y, z) at e in
       subst (λ (g : Frame). readReport k identifier g ≡ Read r) (ap (λ (b : Built). b .frame) q) (read-report identifier x k r y z h))))
+
+-- ---- requests
+
+module _ (identifier : ℕ) (low : ltb 0x1FFFFFFF identifier ≡ false) where
+  asked-as : (k : Kind) (bs : List ℕ) (row : Row) (report : ℕ) → ltb 8 (length bs) ≡ false → eqb (length bs) 0 ≡ false → rowOf k (getD (bodyOf bs .bytes) 0 0) ≡ Listed row report (length bs) → readRequest k identifier (frameOf identifier (bodyOf bs)) ≡ Asked (requestOf row (bodyOf bs .bytes))
+  unfolding readRequest
+  asked-as k bs row report h l e =
+      rw (opened k identifier low bs row report (length bs) h l e, eq-eqb (length bs) (length bs) refl) refl
+
+  -- a request without values
+  asked-plain : (k : Kind) (mux report : ℕ) (row : Row) (r : Request) → rowOf k mux ≡ Listed row report (requestLength k) → requestOf row (mux ∷ replicate 7 0) ≡ r → readRequest k identifier (frameOf identifier (bodyOf (readBytes k mux))) ≡ Asked r
+  asked-plain Sim100 mux report row r e q = asked-as Sim100 (readBytes Sim100 mux) row report refl refl e ∙ ap Asked q
+  asked-plain Sim101 mux report row r e q = asked-as Sim101 (readBytes Sim101 mux) row report refl refl e ∙ ap Asked q
+
+  asked-temperature : (k : Kind) → isSim100 k ≡ false → readRequest k identifier (frameOf identifier (bodyOf (readBytes k 0x80))) ≡ Asked ReadTemperature
+  unfolding lineOf
+  asked-temperature Sim100 u = false-true u
+  asked-temperature Sim101 u = asked-plain Sim101 0x80 5 Mux80 ReadTemperature refl refl
+
+  asked-voltage : (k : Kind) (v : ℕ) → not (isSim100 k) ≡ false → v < 65536 → readRequest k identifier (frameOf identifier (bodyOf (voltageBytes v))) ≡ Asked (SetWorkingVoltage v)
+  unfolding lineOf
+  asked-voltage Sim100 v u h =
+      asked-as Sim100 (voltageBytes v) MuxF0 3 refl refl refl ∙ ap (λ (n : ℕ). Asked (SetWorkingVoltage n)) (word-bytes Big 2 v h)
+  asked-voltage Sim101 v u h = false-true u
+
+  read-request : (k : Kind) (r : Request) → unlistedRequest k r ≡ false → HeldRequest r → readRequest k identifier (frameOf identifier (bodyOf (requestBytes k r))) ≡ Asked r
+  unfolding lineOf
+  read-request k ReadIsolationState u h = asked-plain k 0xE0 8 MuxE0 ReadIsolationState refl refl
+  read-request k ReadResistances u h = asked-plain k 0xE1 8 MuxE1 ReadResistances refl refl
+  read-request k ReadCapacitances u h = asked-plain k 0xE2 8 MuxE2 ReadCapacitances refl refl
+  read-request k ReadVoltages u h = asked-plain k 0xE3 8 MuxE3 ReadVoltages refl refl
+  read-request k ReadBattery u h = asked-plain k 0xE4 8 MuxE4 ReadBattery refl refl
+  read-request k ReadErrorFlags u h = asked-plain k 0xE5 (flagsLength k) MuxE5 ReadErrorFlags refl refl
+  read-request k (ReadWord mux) u h =
+      asked-plain k mux 5 Mux01To0B (ReadWord mux)
+      (word-row k mux (ltb-false mux 0x01 (or-left (ltb mux 0x01) (ltb 0x0B mux) u)) (ltb-false 0x0B mux (or-right (ltb mux 0x01) (ltb 0x0B mux) u)))
+      refl
+  read-request k ReadTemperature u h = asked-temperature k u
+  read-request k (SetWorkingVoltage v) u h = asked-voltage k v u h
+
+pub request-reads-back : RequestReadsBack
+unfolding buildRequest
+request-reads-back k identifier r f h e =
+    decided (ltb 0x1FFFFFFF identifier)
+    (λ x. not-accepted OverLimits f (rw x at e))
+    (λ x. decided (unlistedRequest k r)
+    (λ y. not-accepted NotListed f (rw (x, y) at e))
+    (λ y. let q : frameWith identifier (bodyOf (requestBytes k r)) ≡ accepted f = rw (x, y) at e in
+      subst (λ (g : Frame). readRequest k identifier g ≡ Asked r) (ap (λ (b : Built). b .frame) q) (read-request identifier x k r y h)))
