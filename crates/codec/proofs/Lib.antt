@@ -3,3 +3,4 @@ pub mod Table
 pub mod Conditions
 pub mod Reading
 pub mod ReadsBack
+pub mod BuildsBack

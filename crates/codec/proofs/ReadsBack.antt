@@ -10,7 +10,7 @@ use borrow.Author.Tests.{eq-eqb, ltb-true, ltb-false, not-false}
 use lib.Dec.{ltb, leb, eqb}
 use lib.IntN.{ℤ, pos, negsuc}
 use lib.ListN.{getD, length, replicate}
-use Rattle.words.proofs.Tests.{decided}
+use Rattle.words.proofs.Tests.{decided, false-true, or-left, or-right}
 use Rattle.words.proofs.Words.{word-bytes}
 use Rattle.words.proofs.Signed.{signed-pattern, pattern-fits}
 use Rattle.words.specs.Signed.{signedOf, patternOf, holds, holdsUnsigned}
@@ -44,14 +44,6 @@ use Rattle.codec.specs.Promise.{HeldReport, HeldRequest, accepted, Repor
 use Rattle.codec.proofs.Table.{word-row}
 
 -- ---- the values of a row come back from its bytes
-
-or-left : (a b : Bool) → (a || b) ≡ false → a ≡ false
-or-left true b e = e
-or-left false b e = refl
-
-or-right : (a b : Bool) → (a || b) ≡ false → b ≡ false
-or-right true b e = let z : _≡_ {A = ℕ} 0 1 = cc in absurd (omega arith)
-or-right false b e = e
 
 voltage-back : (k : Kind) (z : ℤ) → voltageMisfit k z ≡ false → voltageOf k (patternOf 16 z) ≡ z
 voltage-back Sim100 (pos n) h = ap pos (mod-eq-of-lt (ltb-true n 65536 (not-false (ltb n 65536) h)))
@@ -94,9 +86,6 @@ module _ (k : Kind) (identifier : ℕ) (low : ltb 0x1FFFFFFF identifier ≡ fals
       read-as (estimatesBytes mux e) row (requestLength k) refl refl listed status
 
 -- ---- reports
-
-false-true : {X : Type 0} → true ≡ false → X
-false-true e = let z : _≡_ {A = ℕ} 0 1 = cc in absurd (omega arith)
 
 module _ (identifier : ℕ) (low : ltb 0x1FFFFFFF identifier ≡ false) where
   read-flags : (k : Kind) (e : ErrorFlags) → badStatus k (e .status) ≡ false → flagsMisfit k (e .flags) ≡ false → e .flags < 65536 → readReport k identifier (frameOf identifier (bodyOf (flagsBytes k e))) ≡ Read (Errors e)

@@ -45,6 +45,14 @@ pattern-signed w n h =
     (mod-eq-of-lt h)
     (let e : (2 ^ suc w - 1 - n) % 2 ^ suc w ≡ 2 ^ suc w - 1 - n = mod-eq-of-lt (omega arith) in rw e (omega arith))
 
+-- the number of a pattern of the width is one that the width holds
+pub signed-held : (w n : ℕ) → n < 2 ^ suc w → holds (suc w) (signedOf (suc w) n) ≡ true
+signed-held w n h =
+    decided (ltb (n + n) (2 ^ suc w))
+    (λ t. rw (t, t) refl)
+    (λ t. let p : 2 ^ suc w ≡ 2 ^ w * 2 = pow-suc 2 w in
+      rw t (lt-ltb (2 ^ suc w - 1 - n + (2 ^ suc w - 1 - n)) (2 ^ suc w) (omega (arith, ltb-false (n + n) (2 ^ suc w) t))))
+
 pub pattern-fits : (width : ℕ) (z : ℤ) → patternOf width z < 2 ^ width
 pattern-fits width (pos n) = mod-lt n (pow-pos width)
 pattern-fits width (negsuc k) = omega (arith, pow-pos width)

@@ -1,0 +1,326 @@
+-- A read frame builds back the same frame, except the two places that document 01 names. Assumes nothing.
+use Prim.Native.Nat.{ℕ, zero, suc, _+_, _-_, _*_, _/_, _%_, _^_, _<_, _≤_}
+use mathlib.Core.Path.{_≡_, refl, ap, sym, subst, _∙_}
+use mathlib.Core.Bool.{Bool, true, false, not, cond, _&&_, _||_, and-false}
+use mathlib.Core.List.{List, [], _∷_, _++_}
+use mathlib.Core.Option.{Option, none, some}
+use native.Mathlib.Nat.{mod-eq-of-lt}
+use native.Mathlib.Numerals.{add-one}
+use native.Mathlib.Omega.{arith}
+use borrow.Author.Tests.{eq-eqb, ne-eqb, eqb-true, lt-ltb, le-ltb, not-false}
+use lib.Dec.{ltb, leb, eqb, lit≤}
+use lib.IntN.{ℤ, pos}
+use lib.ListN.{getD, length, take, replicate}
+use Rattle.words.proofs.Tests.{decided, false-true, or-left, or-right}
+use Rattle.words.proofs.Words.{bytes-word}
+use Rattle.words.proofs.Signed.{pattern-signed, signed-held}
+use Rattle.words.specs.Words.{Bytes, bytesOf}
+use Rattle.words.specs.Signed.{signedOf, patternOf, holds}
+use Rattle.words.specs.declared.Order.the-variants.{Big}
+use Rattle.refusal.specs.declared.Refusal.{Refusal}
+use Rattle.refusal.specs.declared.Refusal.the-variants.{OverLimits, NotExpected, NotListed, WrongLength, WrongStatus}
+use Rattle.codec.specs.declared.frame.Frame.{Frame}
+use Rattle.codec.specs.declared.rows.Kind.{Kind}
+use Rattle.codec.specs.declared.rows.Kind.the-variants.{Sim100, Sim101}
+use Rattle.codec.specs.declared.report.Report.{Report}
+use Rattle.codec.specs.declared.report.Report.the-variants.{IsolationState, Resistances, Capacitances, PoleVoltages, BatteryVoltage, Errors, Word, Temperature, WorkingVoltage}
+use Rattle.codec.specs.declared.report.ReportReading.the-variants.{Read, Refused}
+use Rattle.codec.specs.declared.request.Request.{Request}
+use Rattle.codec.specs.declared.request.Request.the-variants.{ReadIsolationState, ReadResistances, ReadCapacitances, ReadVoltages, ReadBattery, ReadErrorFlags, ReadWord, ReadTemperature, SetWorkingVoltage}
+use Rattle.codec.specs.declared.request.RequestReading.the-variants.{Read as Asked, Refused as NotAsked}
+use Rattle.codec.specs.Requests.{requestOf, requestIn, readRequest, unlistedRequest, readBytes, requestBytes, buildRequest}
+use Rattle.codec.specs.Frames.{overLimits, notExpected, muxOf, bodyOf, frameWith, Held}
+use Rattle.codec.specs.Promise.{accepted, cleared, ReportBuildsBack, RequestBuildsBack}
+use Rattle.codec.specs.declared.rows.Row.{Row}
+use Rattle.codec.specs.declared.rows.Listing.{Listing}
+use Rattle.codec.specs.declared.rows.Listing.the-variants.{Listed, Refused as Unlisted}
+use Rattle.codec.specs.Table.{Line, part, numberAt, table, own, flagsLength, requestLength, asRow, rowOf, frameRow}
+use Rattle.codec.proofs.Table.{Each, by-line, just}
+use Rattle.codec.specs.Reports.{voltageOf, estimatesIn, voltagesIn, batteryIn, flagsIn, badStatus, wrongStatus, reportOf, reportIn, readReport}
+use Rattle.codec.specs.Building.{isSim100, voltageMisfit, flagsMisfit, estimatesBytes, voltagesRaw, batteryRaw, unlisted, misfit, reportBytes, buildReport}
+
+-- ---- part
+
+length-part : (b : List ℕ) (place width : ℕ) → length (part b place width) ≡ width
+length-part b place zero = refl
+length-part b place (suc width) = ap suc (length-part b (place + 1) width)
+
+part-past : (x : ℕ) (b : List ℕ) (place width : ℕ) → part (x ∷ b) (suc place) width ≡ part b place width
+part-past x b place zero = refl
+part-past x b place (suc width) = rw add-one (ap (λ (l : List ℕ). getD b place 0 ∷ l) (rw add-one (part-past x b (suc place) width)))
+
+-- the first bytes, one by one
+take-part : (b : List ℕ) (n : ℕ) → n ≤ length b → take n b ≡ part b 0 n
+take-part b zero h = refl
+take-part [] (suc n) h = absurd (omega arith)
+take-part (x ∷ b) (suc n) h = ap (λ (l : List ℕ). x ∷ l) (take-part b n (omega arith) ∙ sym (part-past x b 0 n))
+
+byte-at : (b : List ℕ) → Bytes b → (i : ℕ) → getD b i 0 < 256
+byte-at [] h i = omega arith
+byte-at (x ∷ b) h zero = h .0
+byte-at (x ∷ b) h (suc i) = byte-at b (h .1) i
+
+bytes-part : (b : List ℕ) → Bytes b → (place width : ℕ) → Bytes (part b place width)
+bytes-part b h place zero = tt
+bytes-part b h place (suc width) = (byte-at b h place, bytes-part b h (place + 1) width)
+
+-- the bytes of the number at a place are those at the place
+pub bytes-at : (b : List ℕ) → Bytes b → (place width : ℕ) → bytesOf Big width (numberAt b place width) ≡ part b place width
+bytes-at b h place width =
+    ap (λ (w : ℕ). bytesOf Big w (numberAt b place width)) (sym (length-part b place width))
+    ∙ bytes-word Big (part b place width) (bytes-part b h place width)
+
+-- ---- what was read fits its field, and its bytes are those that were read
+
+number-small : (b : List ℕ) → Bytes b → (place : ℕ) → numberAt b place 2 < 65536
+number-small b h place = omega (arith, byte-at b h place, byte-at b h (place + 1))
+
+voltage-fits : (k : Kind) (n : ℕ) → n < 65536 → voltageMisfit k (voltageOf k n) ≡ false
+voltage-fits Sim100 n h = rw (lt-ltb n 65536 h) refl
+voltage-fits Sim101 n h = ap not (signed-held 15 n h)
+
+voltage-pattern : (k : Kind) (n : ℕ) → n < 65536 → patternOf 16 (voltageOf k n) ≡ n
+voltage-pattern Sim100 n h = mod-eq-of-lt h
+voltage-pattern Sim101 n h = pattern-signed 15 n h
+
+flags-fit : (k : Kind) (b : List ℕ) → Bytes b → flagsMisfit k (flagsIn k b .flags) ≡ false
+flags-fit Sim100 b h = le-ltb 255 (getD b 2 0) (omega (arith, byte-at b h 2))
+flags-fit Sim101 b h = refl
+
+module _ (b : List ℕ) (h : Bytes b) where
+  estimates-bytes : (mux : ℕ) → estimatesBytes mux (estimatesIn b) ≡ mux ∷ part b 1 7
+  estimates-bytes mux =
+      ap (λ (x : List ℕ). mux ∷ getD b 1 0 ∷ (x ++ (getD b 4 0 ∷ (bytesOf Big 2 (numberAt b 5 2) ++ (getD b 7 0 ∷ []))))) (bytes-at b h 2 2)
+      ∙ ap (λ (y : List ℕ). mux ∷ getD b 1 0 ∷ getD b 2 0 ∷ getD b 3 0 ∷ getD b 4 0 ∷ (y ++ (getD b 7 0 ∷ []))) (bytes-at b h 5 2)
+
+  voltages-raw : (k : Kind) → voltagesRaw (voltagesIn k b) ≡ estimatesIn b
+  voltages-raw k =
+      rw (voltage-pattern k (numberAt b 2 2) (number-small b h 2), voltage-pattern k (numberAt b 5 2) (number-small b h 5)) refl
+
+  battery-raw : (k : Kind) → batteryRaw (batteryIn k b) ≡ estimatesIn b
+  battery-raw k = rw (voltage-pattern k (numberAt b 2 2) (number-small b h 2)) refl
+
+-- ---- a frame that was read is extended and on the identifier, which is within the limit
+
+record Passed (identifier : ℕ) (f : Frame) : Type 0 where
+  extended : f .extended ≡ true
+  same : f .identifier ≡ identifier
+  low : ltb 0x1FFFFFFF identifier ≡ false
+
+passed : (identifier : ℕ) (f : Frame) → overLimits f ≡ false → notExpected identifier f ≡ false → Passed identifier f
+passed identifier f h l =
+    let x : f .extended ≡ true = not-false (f .extended) (or-left (not (f .extended)) (not (eqb (f .identifier) identifier)) l) in
+    let i : f .identifier ≡ identifier = eqb-true (f .identifier) identifier (not-false (eqb (f .identifier) identifier) (or-right (not (f .extended)) (not (eqb (f .identifier) identifier)) l)) in
+    let o = or-left (ltb 8 (f .length) || f .extended && ltb 0x1FFFFFFF (f .identifier)) (not (f .extended) && ltb 0x7FF (f .identifier)) h in
+    let p : f .extended && ltb 0x1FFFFFFF (f .identifier) ≡ false = or-right (ltb 8 (f .length)) (f .extended && ltb 0x1FFFFFFF (f .identifier)) o in
+    record { extended = x; same = i; low = rw (x, i) at p }
+
+-- the frame with the first bytes of another and zeros after them is that other, cleared
+joined : (identifier : ℕ) (f : Frame) (bs : List ℕ) (place : ℕ) → Passed identifier f → f .length ≡ length bs → bs ++ replicate (8 - length bs) 0 ≡ take place (f .bytes) ++ replicate (8 - place) 0 → frameWith identifier (bodyOf bs) ≡ accepted (cleared place f)
+joined identifier f bs place p n e = rw (p .extended, p .same, n, e) refl
+
+first-bytes : (f : Frame) → Held f → (place : ℕ) → place ≤ 8 → part (f .bytes) 0 place ++ replicate (8 - length (part (f .bytes) 0 place)) 0 ≡ take place (f .bytes) ++ replicate (8 - place) 0
+first-bytes f held place h = rw (length-part (f .bytes) 0 place, take-part (f .bytes) place (omega (arith, held .eight))) refl
+
+word-listed : (m : ℕ) → 0x01 ≤ m → m ≤ 0x0B → (ltb m 0x01 || ltb 0x0B m) ≡ false
+word-listed m h l = rw (le-ltb m 0x01 h, le-ltb 0x0B m l) refl
+
+-- ---- reports
+
+module _ (k : Kind) (identifier : ℕ) (f : Frame) (held : Held f) (p : Passed identifier f) where
+  abbrev Rebuilt : Report → Type 0
+  Rebuilt r = buildReport k identifier r ≡ accepted (cleared (cond (isSim100 k && eqb (muxOf f) 0xE5) 3 (f .length)) f)
+
+  rebuilt : (r : Report) (bs : List ℕ) (place : ℕ) → unlisted k r ≡ false → misfit k r ≡ false → reportBytes k r ≡ bs → f .length ≡ length bs → cond (isSim100 k && eqb (muxOf f) 0xE5) 3 (f .length) ≡ place → bs ++ replicate (8 - length bs) 0 ≡ take place (f .bytes) ++ replicate (8 - place) 0 → Rebuilt r
+  unfolding buildReport
+  rebuilt r bs place u m e n c q = rw (p .low, u, m, e, c) (joined identifier f bs place p n q)
+
+  kept-whole : (n m : ℕ) → eqb m 0xE5 ≡ false → cond (isSim100 k && eqb m 0xE5) 3 n ≡ n
+  kept-whole n m h = rw (h, and-false (isSim100 k)) refl
+
+  -- every row but E5
+  whole : (r : Report) (place : ℕ) → eqb (muxOf f) 0xE5 ≡ false → place ≤ 8 → f .length ≡ place → unlisted k r ≡ false → misfit k r ≡ false → reportBytes k r ≡ part (f .bytes) 0 place → Rebuilt r
+  whole r place other h n u m e =
+      rebuilt r (part (f .bytes) 0 place) place u m e (n ∙ sym (length-part (f .bytes) 0 place))
+      (kept-whole (f .length) (muxOf f) other ∙ n)
+      (first-bytes f held place h)
+
+  -- E0 to E4: the multiplexer, and the seven bytes after it
+  measured : (x : ℕ) (r : Report) → eqb x 0xE5 ≡ false → x ≡ muxOf f → f .length ≡ 8 → unlisted k r ≡ false → misfit k r ≡ false → reportBytes k r ≡ x ∷ part (f .bytes) 1 7 → Rebuilt r
+  measured x r other e n u m q =
+      whole r 8 (subst (λ (y : ℕ). eqb y 0xE5 ≡ false) e other) (lit≤ tt) n u m (q ∙ ap (λ (y : ℕ). y ∷ part (f .bytes) 1 7) e)
+
+  abbrev Back : ℕ → Listing → Type 0
+  Back m (Unlisted why) = Unit
+  Back m (Listed row report request) = m ≡ muxOf f → f .length ≡ report → wrongStatus k row (getD (f .bytes) 1 0) ≡ false → Rebuilt (reportOf k row (f .bytes))
+
+  alone : (x : ℕ) (l : Line) → Back x (asRow (some l)) → (m : ℕ) → x ≤ m → m ≤ x → Back m (asRow (some l))
+  alone x l = just x (λ (m : ℕ). Back m (asRow (some l)))
+
+  word : (m : ℕ) → 0x01 ≤ m → m ≤ 0x0B → m ≡ muxOf f → f .length ≡ 5 → Rebuilt (Word (muxOf f) (numberAt (f .bytes) 1 4))
+  word m h l e n =
+      whole (Word (muxOf f) (numberAt (f .bytes) 1 4)) 5 (ne-eqb (muxOf f) 0xE5 (λ q. absurd (omega arith))) (lit≤ tt) n
+      (word-listed (muxOf f) (omega arith) (omega arith))
+      refl
+      (ap (λ (l : List ℕ). muxOf f ∷ l) (bytes-at (f .bytes) (held .each) 1 4))
+
+module _ (identifier : ℕ) (f : Frame) (held : Held f) (p : Passed identifier f) where
+  flags-back : (k : Kind) → 0xE5 ≡ muxOf f → f .length ≡ flagsLength k → badStatus k (getD (f .bytes) 1 0) ≡ false → Rebuilt k identifier f held p (Errors (flagsIn k (f .bytes)))
+  flags-back Sim100 e n s =
+      let b = f .bytes in
+      rebuilt Sim100 identifier f held p (Errors (flagsIn Sim100 b)) (part b 0 3 ++ replicate 5 0) 3 refl
+      (rw (s, flags-fit Sim100 b (held .each)) refl)
+      (rw (mod-eq-of-lt {n = getD b 2 0} {m = 256} (byte-at b (held .each) 2)) (ap (λ (x : ℕ). x ∷ (part b 1 2 ++ replicate 5 0)) e))
+      n
+      (ap (λ (x : ℕ). cond (eqb x 0xE5) 3 (f .length)) (sym e))
+      (ap (λ (l : List ℕ). l ++ replicate 5 0) (sym (take-part b 3 (omega (arith, held .eight)))))
+  flags-back Sim101 e n s =
+      let b = f .bytes in
+      rebuilt Sim101 identifier f held p (Errors (flagsIn Sim101 b)) (part b 0 4) 4 refl
+      (rw s refl)
+      (ap (λ (l : List ℕ). 0xE5 ∷ getD b 1 0 ∷ l) (bytes-at b (held .each) 2 2) ∙ ap (λ (x : ℕ). x ∷ part b 1 3) e)
+      n
+      n
+      (first-bytes f held 4 (lit≤ tt))
+
+  own-back : (k : Kind) → Each (λ (m : ℕ) (o : Option Line). Back k identifier f held p m (asRow o)) (own k ∷ [])
+  own-back Sim100 =
+      let b = f .bytes in
+      (alone Sim100 identifier f held p 0xF0 (own Sim100)
+      (λ e n s. whole Sim100 identifier f held p (WorkingVoltage (numberAt b 1 2)) 3 (subst (λ (y : ℕ). eqb y 0xE5 ≡ false) e refl) (lit≤ tt) n refl refl
+      (ap (λ (l : List ℕ). 0xF0 ∷ l) (bytes-at b (held .each) 1 2) ∙ ap (λ (x : ℕ). x ∷ part b 1 2) e)),
+      tt)
+  own-back Sim101 =
+      let b = f .bytes in
+      (alone Sim101 identifier f held p 0x80 (own Sim101)
+      (λ e n s. whole Sim101 identifier f held p (Temperature (signedOf 32 (numberAt b 1 4))) 5 (subst (λ (y : ℕ). eqb y 0xE5 ≡ false) e refl) (lit≤ tt) n refl refl
+      (ap (λ (w : ℕ). 0x80 ∷ bytesOf Big 4 w) (pattern-signed 31 (numberAt b 1 4) (omega (arith, byte-at b (held .each) 1, byte-at b (held .each) 2, byte-at b (held .each) 3, byte-at b (held .each) 4)))
+      ∙ ap (λ (l : List ℕ). 0x80 ∷ l) (bytes-at b (held .each) 1 4)
+      ∙ ap (λ (x : ℕ). x ∷ part b 1 4) e)),
+      tt)
+
+  lines-back : (k : Kind) → Each (λ (m : ℕ) (o : Option Line). Back k identifier f held p m (asRow o)) (table k)
+  lines-back k =
+      let b = f .bytes in
+      let L : ℕ → Line = λ i. getD (table k) i (own k) in
+      let fits : (place : ℕ) → voltageMisfit k (voltageOf k (numberAt b place 2)) ≡ false = λ place. voltage-fits k (numberAt b place 2) (number-small b (held .each) place) in
+      (alone k identifier f held p 0xE0 (L 0) (λ e n s. measured k identifier f held p 0xE0 (IsolationState (estimatesIn b)) refl e n refl s (estimates-bytes b (held .each) 0xE0)),
+      (alone k identifier f held p 0xE1 (L 1) (λ e n s. measured k identifier f held p 0xE1 (Resistances (estimatesIn b)) refl e n refl s (estimates-bytes b (held .each) 0xE1)),
+      (alone k identifier f held p 0xE2 (L 2) (λ e n s. measured k identifier f held p 0xE2 (Capacitances (estimatesIn b)) refl e n refl s (estimates-bytes b (held .each) 0xE2)),
+      (alone k identifier f held p 0xE3 (L 3) (λ e n s. measured k identifier f held p 0xE3 (PoleVoltages (voltagesIn k b)) refl e n refl (rw (s, fits 2, fits 5) refl) (ap (estimatesBytes 0xE3) (voltages-raw b (held .each) k) ∙ estimates-bytes b (held .each) 0xE3)),
+      (alone k identifier f held p 0xE4 (L 4) (λ e n s. measured k identifier f held p 0xE4 (BatteryVoltage (batteryIn k b)) refl e n refl (rw (s, fits 2) refl) (ap (estimatesBytes 0xE4) (battery-raw b (held .each) k) ∙ estimates-bytes b (held .each) 0xE4)),
+      (alone k identifier f held p 0xE5 (L 5) (λ e n s. flags-back k e n s),
+      ((λ m h l e n s. word k identifier f held p m h l e n), own-back k)))))))
+
+-- ---- from a reading to its row
+
+not-read : {X : Type 0} (why : Refusal) (r : Report) → Refused why ≡ Read r → X
+not-read why r e = let z : _≡_ {A = ℕ} 0 1 = cc in absurd (omega arith)
+
+not-asked : {X : Type 0} (why : Refusal) (r : Request) → NotAsked why ≡ Asked r → X
+not-asked why r e = let z : _≡_ {A = ℕ} 0 1 = cc in absurd (omega arith)
+
+-- whatever a row is read for, a frame that is not refused on the way has passed
+through : {X : Type 0} (T : Listing → Type 0) (k : Kind) (expected : ℕ) (f : Frame) → ((why : Refusal) → T (Unlisted why) → X) → (Passed expected f → T (rowOf k (muxOf f)) → X) → T (frameRow k expected f) → X
+through T k expected f stopped went t =
+    decided (overLimits f)
+    (λ x. stopped OverLimits (rw x at t))
+    (λ x. decided (notExpected expected f)
+    (λ y. stopped NotExpected (rw (x, y) at t))
+    (λ y. decided (eqb (f .length) 0)
+    (λ z. stopped NotListed (rw (x, y, z) at t))
+    (λ z. went (passed expected f x y) (rw (x, y, z) at t))))
+
+report-in : {X : Type 0} (k : Kind) (f : Frame) (r : Report) (l : Listing) → reportIn k f l ≡ Read r → ((row : Row) (report request : ℕ) → l ≡ Listed row report request → f .length ≡ report → wrongStatus k row (getD (f .bytes) 1 0) ≡ false → reportOf k row (f .bytes) ≡ r → X) → X
+report-in k f r (Unlisted why) e g = not-read why r e
+report-in k f r (Listed row report request) e g =
+    decided (not (eqb (f .length) report))
+    (λ x. not-read WrongLength r (rw x at e))
+    (λ x. decided (wrongStatus k row (getD (f .bytes) 1 0))
+    (λ y. not-read WrongStatus r (rw (x, y) at e))
+    (λ y. let q : Read (reportOf k row (f .bytes)) ≡ Read r = rw (x, y) at e in
+      g row report request refl (eqb-true (f .length) report (not-false (eqb (f .length) report) x)) y (cc)))
+
+pub report-builds-back : ReportBuildsBack
+unfolding readReport
+report-builds-back k expected f r held e =
+    through (λ (l : Listing). reportIn k f l ≡ Read r) k expected f
+    (λ why q. not-read why r q)
+    (λ p t. report-in k f r (rowOf k (muxOf f)) t
+    (λ row report request l n s q.
+      subst (Rebuilt k expected f held p) q
+      (subst (Back k expected f held p (muxOf f)) l
+      (by-line (λ (m : ℕ) (o : Option Line). Back k expected f held p m (asRow o)) k (muxOf f) tt (lines-back expected f held p k))
+      refl
+      n
+      s)))
+    e
+
+-- ---- requests
+
+module _ (identifier : ℕ) (f : Frame) (held : Held f) (p : Passed identifier f) where
+  abbrev AskedAgain : Kind → Request → Type 0
+  AskedAgain k r = buildRequest k identifier r ≡ accepted (cleared (cond (isSim100 k) (f .length) 1) f)
+
+  asked-again : (k : Kind) (r : Request) (bs : List ℕ) (place : ℕ) → unlistedRequest k r ≡ false → requestBytes k r ≡ bs → f .length ≡ length bs → cond (isSim100 k) (f .length) 1 ≡ place → bs ++ replicate (8 - length bs) 0 ≡ take place (f .bytes) ++ replicate (8 - place) 0 → AskedAgain k r
+  unfolding buildRequest
+  asked-again k r bs place u e n c q = rw (p .low, u, e, c) (joined identifier f bs place p n q)
+
+  -- a request without values
+  plain : (k : Kind) (x : ℕ) (r : Request) → unlistedRequest k r ≡ false → requestBytes k r ≡ readBytes k x → x ≡ muxOf f → f .length ≡ requestLength k → AskedAgain k r
+  plain Sim100 x r u q e n =
+      asked-again Sim100 r (part (f .bytes) 0 1) 1 u (q ∙ ap (λ (y : ℕ). y ∷ []) e) n n (first-bytes f held 1 (lit≤ tt))
+  plain Sim101 x r u q e n =
+      asked-again Sim101 r (part (f .bytes) 0 1 ++ replicate 2 0) 1 u (q ∙ ap (λ (y : ℕ). y ∷ replicate 2 0) e) n refl (first-bytes f held 1 (lit≤ tt))
+
+  abbrev AskBack : Kind → ℕ → Listing → Type 0
+  AskBack k m (Unlisted why) = Unit
+  AskBack k m (Listed row report request) = m ≡ muxOf f → f .length ≡ request → AskedAgain k (requestOf row (f .bytes))
+
+  ask-alone : (k : Kind) (x : ℕ) (l : Line) → AskBack k x (asRow (some l)) → (m : ℕ) → x ≤ m → m ≤ x → AskBack k m (asRow (some l))
+  ask-alone k x l = just x (λ (m : ℕ). AskBack k m (asRow (some l)))
+
+  own-asked : (k : Kind) → Each (λ (m : ℕ) (o : Option Line). AskBack k m (asRow o)) (own k ∷ [])
+  own-asked Sim100 =
+      let b = f .bytes in
+      (ask-alone Sim100 0xF0 (own Sim100)
+      (λ e n. asked-again Sim100 (SetWorkingVoltage (numberAt b 1 2)) (part b 0 3) 3 refl
+      (ap (λ (l : List ℕ). 0xF0 ∷ l) (bytes-at b (held .each) 1 2) ∙ ap (λ (x : ℕ). x ∷ part b 1 2) e)
+      n
+      n
+      (first-bytes f held 3 (lit≤ tt))),
+      tt)
+  own-asked Sim101 = (ask-alone Sim101 0x80 (own Sim101) (λ e n. plain Sim101 0x80 ReadTemperature refl refl e n), tt)
+
+  lines-asked : (k : Kind) → Each (λ (m : ℕ) (o : Option Line). AskBack k m (asRow o)) (table k)
+  lines-asked k =
+      let L : ℕ → Line = λ i. getD (table k) i (own k) in
+      (ask-alone k 0xE0 (L 0) (λ e n. plain k 0xE0 ReadIsolationState refl refl e n),
+      (ask-alone k 0xE1 (L 1) (λ e n. plain k 0xE1 ReadResistances refl refl e n),
+      (ask-alone k 0xE2 (L 2) (λ e n. plain k 0xE2 ReadCapacitances refl refl e n),
+      (ask-alone k 0xE3 (L 3) (λ e n. plain k 0xE3 ReadVoltages refl refl e n),
+      (ask-alone k 0xE4 (L 4) (λ e n. plain k 0xE4 ReadBattery refl refl e n),
+      (ask-alone k 0xE5 (L 5) (λ e n. plain k 0xE5 ReadErrorFlags refl refl e n),
+      ((λ m h l e n. plain k (muxOf f) (ReadWord (muxOf f)) (word-listed (muxOf f) (omega arith) (omega arith)) refl refl n), own-asked k)))))))
+
+request-in : {X : Type 0} (f : Frame) (r : Request) (l : Listing) → requestIn f l ≡ Asked r → ((row : Row) (report request : ℕ) → l ≡ Listed row report request → f .length ≡ request → requestOf row (f .bytes) ≡ r → X) → X
+request-in f r (Unlisted why) e g = not-asked why r e
+request-in f r (Listed row report request) e g =
+    decided (not (eqb (f .length) request))
+    (λ x. not-asked WrongLength r (rw x at e))
+    (λ x. let q : Asked (requestOf row (f .bytes)) ≡ Asked r = rw x at e in
+      g row report request refl (eqb-true (f .length) request (not-false (eqb (f .length) request) x)) (cc))
+
+pub request-builds-back : RequestBuildsBack
+unfolding readRequest
+request-builds-back k expected f r held e =
+    through (λ (l : Listing). requestIn f l ≡ Asked r) k expected f
+    (λ why q. not-asked why r q)
+    (λ p t. request-in f r (rowOf k (muxOf f)) t
+    (λ row report request l n q.
+      subst (AskedAgain expected f held p k) q
+      (subst (AskBack expected f held p k (muxOf f)) l
+      (by-line (λ (m : ℕ) (o : Option Line). AskBack expected f held p k m (asRow o)) k (muxOf f) tt (lines-asked expected f held p k))
+      refl
+      n)))
+    e
