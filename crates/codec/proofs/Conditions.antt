@@ -6,7 +6,7 @@ use mathlib.Core.List.{List, [], _∷_}
 use mathlib.Core.Logic.{_↔_, _⊎_, inl, inr}
 use native.Mathlib.Omega.{arith}
 use lib.IntN.{ℤ}
-use Rattle.words.proofs.Tests.{decided}
+use Rattle.words.proofs.Tests.{decided, false-true}
 use Rattle.codec.specs.Answers.{Told, refusal, values}
 use Rattle.codec.specs.Promise.{Condition, First, None}
 
@@ -33,3 +33,9 @@ of-first (c ∷ cs) n t (inr h) = rw (h .0) (of-first cs n t (h .1))
 -- a refusal is picked exactly when its condition is the first that holds
 pub pick-exactly : (cs : List Condition) (m n : ℕ) (vs : List ℤ) → pick cs (values m vs) ≡ refusal n ↔ First n cs
 pick-exactly cs m n vs = (first-of cs m n vs, of-first cs n (values m vs))
+
+-- where a condition is the first that holds, not none holds
+pub first-not-none : (n : ℕ) (cs : List Condition) → First n cs → None cs → ⊥
+first-not-none n [] h l = h
+first-not-none n (c ∷ cs) (inl h) l = false-true (sym (h .0) ∙ l .0)
+first-not-none n (c ∷ cs) (inr h) l = first-not-none n cs (h .1) (l .1)

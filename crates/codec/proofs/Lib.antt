@@ -2,5 +2,6 @@
 pub mod Table
 pub mod Conditions
 pub mod Reading
+pub mod Building
 pub mod ReadsBack
 pub mod BuildsBack

@@ -51,11 +51,11 @@ flags-fields Sim101 b = rw (one-byte b 1) refl
 
 -- ---- 5
 
-five-in : (k : Kind) (m status : ℕ) → 0xE0 ≤ m → m ≤ 0xE5 → badStatus k status ≡ fiveOf k m status
+pub five-in : (k : Kind) (m status : ℕ) → 0xE0 ≤ m → m ≤ 0xE5 → badStatus k status ≡ fiveOf k m status
 five-in Sim100 m status h l = rw (le-leb 0xE0 m h, le-leb m 0xE5 l) refl
 five-in Sim101 m status h l = refl
 
-five-below : (k : Kind) (m status : ℕ) → m < 0xE0 → false ≡ fiveOf k m status
+pub five-below : (k : Kind) (m status : ℕ) → m < 0xE0 → false ≡ fiveOf k m status
 five-below Sim100 m status h = rw (lt-leb 0xE0 m h) refl
 five-below Sim101 m status h = refl
 

@@ -1,8 +1,11 @@
 -- Answers on paper: for each case of an enum that is an answer, document 01's number and values.
 use Prim.Native.Nat.{ℕ}
-use mathlib.Core.List.{List, [], _∷_}
+use mathlib.Core.List.{List, [], _∷_, map}
 use lib.IntN.{ℤ, pos}
+use lib.ListN.{take}
 use Rattle.refusal.specs.Refusals.{numberOf}
+use Rattle.codec.specs.declared.frame.Frame.{Frame}
+use Rattle.codec.specs.declared.frame.Built.{Built}
 use Rattle.codec.specs.declared.frame.Answer.{Answer}
 use Rattle.codec.specs.declared.frame.Answer.the-variants.{Accepted, Refused as NotBuilt}
 use Rattle.codec.specs.declared.report.Estimates.{Estimates}
@@ -82,8 +85,11 @@ abbrev pub toldRequest : RequestReading → Told
 toldRequest (Asked r) = values (requestMux r) (requestValues r)
 toldRequest (NotAsked why) = refusal (numberOf why)
 
--- ---- building: 0 where a frame was built, or the refusal's number
+-- ---- frames that were built: the identifier and the bytes, as a listing shows them
 
-abbrev pub answerNumber : Answer → ℕ
-answerNumber Accepted = 0
-answerNumber (NotBuilt why) = numberOf why
+abbrev pub toldFrame : Answer → Frame → Told
+toldFrame Accepted f = values (f .identifier) (map pos (take (f .length) (f .bytes)))
+toldFrame (NotBuilt why) f = refusal (numberOf why)
+
+abbrev pub toldBuilt : Built → Told
+toldBuilt b = toldFrame (b .answer) (b .frame)

@@ -6,7 +6,7 @@ use mathlib.Core.List.{List, [], _∷_, _++_, map}
 use mathlib.Core.Logic.{_↔_, _⊎_}
 use mathlib.Core.Option.{Option, none, some}
 use lib.Dec.{ltb, leb, eqb}
-use lib.IntN.{ℤ}
+use lib.IntN.{ℤ, pos, negsuc}
 use lib.ListN.{getD, take, replicate}
 use Rattle.words.specs.Signed.{holds, holdsUnsigned}
 use Rattle.codec.specs.declared.frame.Frame.{Frame}
@@ -20,12 +20,12 @@ use Rattle.codec.specs.declared.report.ReportReading.the-variants.{Read}
 use Rattle.codec.specs.declared.request.Request.{Request}
 use Rattle.codec.specs.declared.request.Request.the-variants.{ReadIsolationState, ReadResistances, ReadCapacitances, ReadVoltages, ReadBattery, ReadErrorFlags, ReadWord, ReadTemperature, SetWorkingVoltage}
 use Rattle.codec.specs.declared.request.RequestReading.the-variants.{Read as Asked}
-use Rattle.codec.specs.Frames.{overLimits, notExpected, muxOf, Held, blank}
+use Rattle.codec.specs.Frames.{overLimits, notExpected, muxOf, bodyOf, frameWith, blank, Held}
 use Rattle.codec.specs.Table.{Field, Line, lineOf, valueIn}
-use Rattle.codec.specs.Answers.{Told, refusal, values, toldReport, toldRequest, answerNumber, reportMux, reportValues}
+use Rattle.codec.specs.Answers.{Told, refusal, values, toldReport, toldRequest, toldBuilt, reportMux, reportValues}
 use Rattle.codec.specs.Reports.{readReport}
-use Rattle.codec.specs.Building.{isSim100, unlisted, misfit, buildReport}
-use Rattle.codec.specs.Requests.{readRequest, unlistedRequest, buildRequest}
+use Rattle.codec.specs.Building.{isSim100, unlisted, reportBytes, buildReport}
+use Rattle.codec.specs.Requests.{readRequest, unlistedRequest, requestBytes, buildRequest}
 
 -- ---- the conditions of document 01's "Refusal numbers", each with its number
 
@@ -143,6 +143,47 @@ HeldRequest ReadErrorFlags = Unit
 HeldRequest (ReadWord mux) = mux < 256
 HeldRequest ReadTemperature = Unit
 HeldRequest (SetWorkingVoltage v) = v < 65536
+
+-- a value fits its field
+abbrev pub fits : Field → ℤ → Bool
+fits f z = cond (f .signed) (holds (8 * f .width) z) (holdsUnsigned (8 * f .width) z)
+
+abbrev pub allFit : List Field → List ℤ → Bool
+allFit [] [] = true
+allFit [] (z ∷ zs) = false
+allFit (f ∷ fs) [] = false
+allFit (f ∷ fs) (z ∷ zs) = fits f z && allFit fs zs
+
+-- the status byte is the first value of E0 to E5
+abbrev pub statusOf : List ℤ → ℕ
+statusOf [] = 0
+statusOf (pos n ∷ zs) = n
+statusOf (negsuc n ∷ zs) = 0
+
+-- 6: "a value to be built does not fit its field or breaks the rule of 5"
+abbrev pub sixOf : Kind → Report → Bool
+sixOf k r =
+    fiveOf k (reportMux r) (statusOf (reportValues r)) || not (allFit (reportFields (lineOf k (reportMux r))) (reportValues r))
+
+-- "Building a frame: 1 (identifier), 3, 6." Every value that a request's type holds fits
+abbrev pub reportBuildConditions : Kind → ℕ → Report → List Condition
+reportBuildConditions k identifier r = (1 when ltb 0x1FFFFFFF identifier) ∷ (3 when unlisted k r) ∷ (6 when sixOf k r) ∷ []
+
+abbrev pub requestBuildConditions : Kind → ℕ → Request → List Condition
+requestBuildConditions k identifier r = (1 when ltb 0x1FFFFFFF identifier) ∷ (3 when unlistedRequest k r) ∷ []
+
+-- A report to be built is refused by n exactly when the condition of n holds and none before it, and the frame is then blank.
+-- Where none holds, it is built.
+pub record ReportBuilt (k : Kind) (identifier : ℕ) (r : Report) : Type 0 where
+  pub refused : (n : ℕ) → toldBuilt (buildReport k identifier r) ≡ refusal n ↔ First n (reportBuildConditions k identifier r)
+  pub nothing : (n : ℕ) → First n (reportBuildConditions k identifier r) → buildReport k identifier r .frame ≡ blank
+  pub built : None (reportBuildConditions k identifier r) → buildReport k identifier r ≡ frameWith identifier (bodyOf (reportBytes k r))
+
+-- The same of a request.
+pub record RequestBuilt (k : Kind) (identifier : ℕ) (r : Request) : Type 0 where
+  pub refused : (n : ℕ) → toldBuilt (buildRequest k identifier r) ≡ refusal n ↔ First n (requestBuildConditions k identifier r)
+  pub nothing : (n : ℕ) → First n (requestBuildConditions k identifier r) → buildRequest k identifier r .frame ≡ blank
+  pub built : None (requestBuildConditions k identifier r) → buildRequest k identifier r ≡ frameWith identifier (bodyOf (requestBytes k r))
 
 abbrev pub accepted : Frame → Built
 accepted f = record { answer = Accepted; frame = f }

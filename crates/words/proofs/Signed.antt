@@ -118,7 +118,7 @@ kept z h = toZ-ofZ (record { sfits = h })
 
 -- ---- the code's limits: tests of a number against both ends of what 16 bits hold
 
-over : (h n : ℕ) → leb h n ≡ not (ltb n h)
+pub over : (h n : ℕ) → leb h n ≡ not (ltb n h)
 over h n =
     decided (ltb n h)
     (λ t. rw (t, lt-leb h n (ltb-true n h t)))

@@ -1,0 +1,144 @@
+-- Building: a value is refused by 6 exactly when it does not fit its field in the table, or breaks the rule of 5. Assumes nothing.
+use Prim.Native.Nat.{ℕ, _^_, _<_, _≤_}
+use mathlib.Core.Path.{_≡_, refl, ap, sym, _∙_}
+use mathlib.Core.Bool.{Bool, true, false, not, cond, _&&_, _||_, and-true, or-false}
+use mathlib.Core.List.{List, [], _∷_, map}
+use mathlib.Core.Option.{some}
+use native.Mathlib.Omega.{arith}
+use borrow.Author.Tests.{lt-ltb, ltb-false}
+use lib.Dec.{ltb, lit≤}
+use lib.IntN.{ℤ, pos}
+use lib.ListN.{length, take}
+use Rattle.words.proofs.Tests.{decided, false-true, or-left, or-right}
+use Rattle.words.proofs.Signed.{over}
+use Rattle.words.specs.Signed.{holds}
+use Rattle.codec.specs.declared.frame.Built.{Built}
+use Rattle.codec.specs.declared.rows.Kind.{Kind}
+use Rattle.codec.specs.declared.rows.Kind.the-variants.{Sim100, Sim101}
+use Rattle.codec.specs.declared.report.Estimates.{Estimates}
+use Rattle.codec.specs.declared.report.ErrorFlags.{ErrorFlags}
+use Rattle.codec.specs.declared.report.Report.{Report}
+use Rattle.codec.specs.declared.report.Report.the-variants.{IsolationState, Resistances, Capacitances, PoleVoltages, BatteryVoltage, Errors, Word, Temperature, WorkingVoltage}
+use Rattle.codec.specs.declared.request.Request.{Request}
+use Rattle.refusal.specs.declared.Refusal.the-variants.{OverLimits, NotListed, DoesNotFit}
+use Rattle.codec.specs.Frames.{bodyOf, frameWith, refused, blank}
+use Rattle.codec.specs.Table.{Field, lineOf, unsigned, estimatesOf, voltageAt, flagsOf}
+use Rattle.codec.specs.Answers.{estimates, toldBuilt}
+use Rattle.codec.specs.Reports.{badStatus}
+use Rattle.codec.specs.Building.{isSim100, unlisted, voltageMisfit, flagsMisfit, misfit, reportBytes, buildReport}
+use Rattle.codec.specs.Requests.{unlistedRequest, requestBytes, buildRequest}
+use Rattle.codec.specs.Promise.{_when_, First, None, HeldEstimates, HeldReport, fits, allFit, fiveOf, sixOf, reportBuildConditions, requestBuildConditions, ReportBuilt, RequestBuilt}
+use Rattle.codec.proofs.Table.{word-line}
+use Rattle.codec.proofs.Conditions.{pick, pick-exactly, first-not-none}
+use Rattle.codec.proofs.Reading.{five-in, five-below}
+
+-- ---- fits, allFit
+
+-- the status and the uncertainties always fit
+two-values : (x y : Field) (s p q : ℕ) (u v : ℤ) → s < 256 → p < 256 → q < 256 → allFit (estimatesOf x y) (pos s ∷ u ∷ pos p ∷ v ∷ pos q ∷ []) ≡ (fits x u && fits y v)
+two-values x y s p q u v hs hp hq =
+    rw (lt-ltb s 256 hs, lt-ltb p 256 hp, lt-ltb q 256 hq, and-true (fits y v)) refl
+
+voltage-field : (k : Kind) (place : ℕ) (z : ℤ) → voltageMisfit k z ≡ not (fits (voltageAt k place) z)
+voltage-field Sim100 place z = refl
+voltage-field Sim101 place z = refl
+
+-- ---- sixOf
+
+nothing-else : (a b x : Bool) → a ≡ b → x ≡ true → a ≡ (b || not x)
+nothing-else a b x e h = rw h (e ∙ sym (or-false b))
+
+either : (a b x y u v : Bool) → a ≡ b → x ≡ not u → y ≡ not v → (a || x || y) ≡ (b || not (u && v))
+either true b x y u v e p q = rw (sym e) refl
+either false b x y true v e p q = rw (sym e, p, q) refl
+either false b x y false v e p q = rw (sym e, p) refl
+
+estimates-six : (k : Kind) (mux : ℕ) (e : Estimates) → 0xE0 ≤ mux → mux ≤ 0xE5 → HeldEstimates e → badStatus k (e .status) ≡ (fiveOf k mux (e .status) || not (allFit (estimatesOf (unsigned 2 2) (unsigned 5 2)) (estimates e)))
+estimates-six k mux e lo hi h =
+    nothing-else (badStatus k (e .status)) (fiveOf k mux (e .status)) (allFit (estimatesOf (unsigned 2 2) (unsigned 5 2)) (estimates e))
+    (five-in k mux (e .status) lo hi)
+    (two-values (unsigned 2 2) (unsigned 5 2) (e .status) (e .«first_uncertainty») (e .«second_uncertainty») (pos (e .first)) (pos (e .second)) (h .0) (h .1 .1 .0) (h .1 .1 .1 .1)
+    ∙ rw (lt-ltb (e .first) 65536 (h .1 .0), lt-ltb (e .second) 65536 (h .1 .1 .1 .0)) refl)
+
+flags-six : (k : Kind) (e : ErrorFlags) → e .status < 256 → e .flags < 65536 → (badStatus k (e .status) || flagsMisfit k (e .flags)) ≡ (fiveOf k 0xE5 (e .status) || not (allFit (flagsOf k) (pos (e .status) ∷ pos (e .flags) ∷ [])))
+flags-six Sim100 e h l =
+    rw (lt-ltb (e .status) 256 h, and-true (ltb (e .flags) 256), over 256 (e .flags), five-in Sim100 0xE5 (e .status) (lit≤ tt) (lit≤ tt)) refl
+flags-six Sim101 e h l = rw (lt-ltb (e .status) 256 h, lt-ltb (e .flags) 65536 l) refl
+
+temperature-six : (k : Kind) (z : ℤ) → isSim100 k ≡ false → holds 32 z ≡ true → false ≡ sixOf k (Temperature z)
+unfolding lineOf
+temperature-six Sim100 z u h = false-true u
+temperature-six Sim101 z u h = rw h refl
+
+voltage-six : (k : Kind) (v : ℕ) → not (isSim100 k) ≡ false → v < 65536 → false ≡ sixOf k (WorkingVoltage v)
+unfolding lineOf
+voltage-six Sim100 v u h = rw (lt-ltb v 65536 h) refl
+voltage-six Sim101 v u h = false-true u
+
+word-six : (k : Kind) (mux w : ℕ) → 0x01 ≤ mux → mux ≤ 0x0B → w < 2 ^ 32 → false ≡ sixOf k (Word mux w)
+word-six k mux w h l b = rw (word-line k mux h l, sym (five-below k mux w (omega arith)), lt-ltb w (2 ^ 32) b) refl
+
+six-is : (k : Kind) (r : Report) → HeldReport r → unlisted k r ≡ false → misfit k r ≡ sixOf k r
+unfolding lineOf
+six-is k (IsolationState e) h u = estimates-six k 0xE0 e (lit≤ tt) (lit≤ tt) h
+six-is k (Resistances e) h u = estimates-six k 0xE1 e (lit≤ tt) (lit≤ tt) h
+six-is k (Capacitances e) h u = estimates-six k 0xE2 e (lit≤ tt) (lit≤ tt) h
+six-is k (PoleVoltages v) h u =
+    rw (two-values (voltageAt k 2) (voltageAt k 5) (v .status) (v .«vp_uncertainty») (v .«vn_uncertainty») (v .vp) (v .vn) (h .0) (h .1 .0) (h .1 .1))
+    (either (badStatus k (v .status)) (fiveOf k 0xE3 (v .status)) (voltageMisfit k (v .vp)) (voltageMisfit k (v .vn)) (fits (voltageAt k 2) (v .vp)) (fits (voltageAt k 5) (v .vn))
+    (five-in k 0xE3 (v .status) (lit≤ tt) (lit≤ tt)) (voltage-field k 2 (v .vp)) (voltage-field k 5 (v .vn)))
+six-is k (BatteryVoltage b) h u =
+    rw (two-values (voltageAt k 2) (unsigned 5 2) (b .status) (b .«vb_uncertainty») (b .«vb_max_uncertainty») (b .vb) (pos (b .«vb_max»)) (h .0) (h .1 .0) (h .1 .1 .1), lt-ltb (b .«vb_max») 65536 (h .1 .1 .0))
+    (sym (or-false (badStatus k (b .status) || voltageMisfit k (b .vb)))
+    ∙ either (badStatus k (b .status)) (fiveOf k 0xE4 (b .status)) (voltageMisfit k (b .vb)) false (fits (voltageAt k 2) (b .vb)) true
+    (five-in k 0xE4 (b .status) (lit≤ tt) (lit≤ tt)) (voltage-field k 2 (b .vb)) refl)
+six-is k (Errors e) h u = flags-six k e (h .0) (h .1)
+six-is k (Word mux w) h u =
+    word-six k mux w (ltb-false mux 0x01 (or-left (ltb mux 0x01) (ltb 0x0B mux) u)) (ltb-false 0x0B mux (or-right (ltb mux 0x01) (ltb 0x0B mux) u)) (h .1)
+six-is k (Temperature z) h u = temperature-six k z u h
+six-is k (WorkingVoltage v) h u = voltage-six k v u h
+
+-- ---- the answers: 1, 3, 6 in that order, or the frame
+
+abbrev answer : Bool → Bool → Bool → Built → Built
+answer one three six b = cond one (refused OverLimits) (cond three (refused NotListed) (cond six (refused DoesNotFit) b))
+
+told : (a b c : Bool) (i : ℕ) (bs : List ℕ) → toldBuilt (answer a b c (frameWith i (bodyOf bs))) ≡ pick ((1 when a) ∷ (3 when b) ∷ (6 when c) ∷ []) (toldBuilt (frameWith i (bodyOf bs)))
+told true b c i bs = refl
+told false true c i bs = refl
+told false false true i bs = refl
+told false false false i bs = refl
+
+no-frame : (a b c : Bool) (f : Built) → (a ≡ false → b ≡ false → c ≡ false → ⊥) → answer a b c f .frame ≡ blank
+no-frame true b c f h = refl
+no-frame false true c f h = refl
+no-frame false false true f h = refl
+no-frame false false false f h = absurd (h refl refl refl)
+
+module _ (k : Kind) (identifier : ℕ) (r : Report) (held : HeldReport r) where
+  report-is : buildReport k identifier r ≡ answer (ltb 0x1FFFFFFF identifier) (unlisted k r) (sixOf k r) (frameWith identifier (bodyOf (reportBytes k r)))
+  unfolding buildReport
+  report-is = decided (unlisted k r) (λ y. rw y refl) (λ y. rw (y, six-is k r held y) refl)
+
+  pub report-built : ReportBuilt k identifier r
+  report-built =
+      let cs = reportBuildConditions k identifier r in
+      let bs = reportBytes k r in
+      let over = ltb 0x1FFFFFFF identifier in
+      record {
+        refused = λ n. rw (report-is, told over (unlisted k r) (sixOf k r) identifier bs) (pick-exactly cs identifier n (map pos (take (length bs) (bodyOf bs .bytes))));
+        nothing = λ n h. ap (λ (b : Built). b .frame) report-is ∙ no-frame over (unlisted k r) (sixOf k r) (frameWith identifier (bodyOf bs)) (λ x y z. first-not-none n cs h (x, (y, (z, tt))));
+        built = λ h. report-is ∙ rw (h .0, h .1 .0, h .1 .1 .0) refl
+      }
+
+pub request-built : (k : Kind) (identifier : ℕ) (r : Request) → RequestBuilt k identifier r
+unfolding buildRequest
+request-built k identifier r =
+    let cs = requestBuildConditions k identifier r in
+    let bs = requestBytes k r in
+    let over = ltb 0x1FFFFFFF identifier in
+    record {
+      refused = λ n. rw (told over (unlistedRequest k r) false identifier bs) (pick-exactly cs identifier n (map pos (take (length bs) (bodyOf bs .bytes))));
+      nothing = λ n h. no-frame over (unlistedRequest k r) false (frameWith identifier (bodyOf bs)) (λ x y z. first-not-none n cs h (x, (y, tt)));
+      built = λ h. rw (h .0, h .1 .0) refl
+    }
