@@ -3,7 +3,6 @@ use Prim.Native.Nat.{ℕ, _^_, _<_, _≤_}
 use mathlib.Core.Path.{_≡_, refl, ap, sym, _∙_}
 use mathlib.Core.Bool.{Bool, true, false, not, cond, _&&_, _||_, and-true, or-false}
 use mathlib.Core.List.{List, [], _∷_, map}
-use mathlib.Core.Option.{some}
 use native.Mathlib.Omega.{arith}
 use borrow.Author.Tests.{lt-ltb, ltb-false}
 use lib.Dec.{ltb, lit≤}
@@ -27,7 +26,9 @@ use Rattle.codec.specs.Answers.{estimates, toldBuilt}
 use Rattle.codec.specs.Reports.{badStatus}
 use Rattle.codec.specs.Building.{isSim100, unlisted, voltageMisfit, flagsMisfit, misfit, reportBytes, buildReport}
 use Rattle.codec.specs.Requests.{unlistedRequest, requestBytes, buildRequest}
-use Rattle.codec.specs.Promise.{_when_, First, None, HeldEstimates, HeldReport, fits, allFit, fiveOf, sixOf, reportBuildConditions, requestBuildConditions, ReportBuilt, RequestBuilt}
+use Rattle.codec.specs.Conditions.{_when_, fits, allFit, fiveOf, sixOf, reportBuildConditions, requestBuildConditions}
+use Rattle.codec.specs.Held.{HeldEstimates, HeldReport}
+use Rattle.codec.specs.Promise.{ReportBuilt, RequestBuilt}
 use Rattle.codec.proofs.Table.{word-line}
 use Rattle.codec.proofs.Conditions.{pick, pick-exactly, first-not-none}
 use Rattle.codec.proofs.Reading.{five-in, five-below}
@@ -128,7 +129,7 @@ module _ (k : Kind) (identifier : ℕ) (r : Report) (held : HeldReport r) where
       record {
         refused = λ n. rw (report-is, told over (unlisted k r) (sixOf k r) identifier bs) (pick-exactly cs identifier n (map pos (take (length bs) (bodyOf bs .bytes))));
         nothing = λ n h. ap (λ (b : Built). b .frame) report-is ∙ no-frame over (unlisted k r) (sixOf k r) (frameWith identifier (bodyOf bs)) (λ x y z. first-not-none n cs h (x, (y, (z, tt))));
-        built = λ h. report-is ∙ rw (h .0, h .1 .0, h .1 .1 .0) refl
+        built = λ h. report-is ∙ rw (h .0, h .1 .0, h .1 .1 .0) refl;
       }
 
 pub request-built : (k : Kind) (identifier : ℕ) (r : Request) → RequestBuilt k identifier r
@@ -140,5 +141,5 @@ request-built k identifier r =
     record {
       refused = λ n. rw (told over (unlistedRequest k r) false identifier bs) (pick-exactly cs identifier n (map pos (take (length bs) (bodyOf bs .bytes))));
       nothing = λ n h. no-frame over (unlistedRequest k r) false (frameWith identifier (bodyOf bs)) (λ x y z. first-not-none n cs h (x, (y, tt)));
-      built = λ h. rw (h .0, h .1 .0) refl
+      built = λ h. rw (h .0, h .1 .0) refl;
     }

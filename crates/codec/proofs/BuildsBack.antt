@@ -1,21 +1,20 @@
 -- A read frame builds back the same frame, except the two places that document 01 names. Assumes nothing.
-use Prim.Native.Nat.{ℕ, zero, suc, _+_, _-_, _*_, _/_, _%_, _^_, _<_, _≤_}
+use Prim.Native.Nat.{ℕ, zero, suc, _+_, _-_, _<_, _≤_}
 use mathlib.Core.Path.{_≡_, refl, ap, sym, subst, _∙_}
-use mathlib.Core.Bool.{Bool, true, false, not, cond, _&&_, _||_, and-false}
+use mathlib.Core.Bool.{true, false, not, cond, _&&_, _||_, and-false}
 use mathlib.Core.List.{List, [], _∷_, _++_}
-use mathlib.Core.Option.{Option, none, some}
+use mathlib.Core.Option.{Option, some}
 use native.Mathlib.Nat.{mod-eq-of-lt}
 use native.Mathlib.Numerals.{add-one}
 use native.Mathlib.Omega.{arith}
-use borrow.Author.Tests.{eq-eqb, ne-eqb, eqb-true, lt-ltb, le-ltb, not-false}
-use lib.Dec.{ltb, leb, eqb, lit≤}
-use lib.IntN.{ℤ, pos}
+use borrow.Author.Tests.{ne-eqb, eqb-true, lt-ltb, le-ltb, not-false}
+use lib.Dec.{ltb, eqb, lit≤}
 use lib.ListN.{getD, length, take, replicate}
-use Rattle.words.proofs.Tests.{decided, false-true, or-left, or-right}
+use Rattle.words.proofs.Tests.{decided, or-left, or-right}
 use Rattle.words.proofs.Words.{bytes-word}
 use Rattle.words.proofs.Signed.{pattern-signed, signed-held}
 use Rattle.words.specs.Words.{Bytes, bytesOf}
-use Rattle.words.specs.Signed.{signedOf, patternOf, holds}
+use Rattle.words.specs.Signed.{signedOf, patternOf}
 use Rattle.words.specs.declared.Order.the-variants.{Big}
 use Rattle.refusal.specs.declared.Refusal.{Refusal}
 use Rattle.refusal.specs.declared.Refusal.the-variants.{OverLimits, NotExpected, NotListed, WrongLength, WrongStatus}
@@ -29,7 +28,8 @@ use Rattle.codec.specs.declared.request.Request.{Request}
 use Rattle.codec.specs.declared.request.Request.the-variants.{ReadIsolationState, ReadResistances, ReadCapacitances, ReadVoltages, ReadBattery, ReadErrorFlags, ReadWord, ReadTemperature, SetWorkingVoltage}
 use Rattle.codec.specs.declared.request.RequestReading.the-variants.{Read as Asked, Refused as NotAsked}
 use Rattle.codec.specs.Requests.{requestOf, requestIn, readRequest, unlistedRequest, readBytes, requestBytes, buildRequest}
-use Rattle.codec.specs.Frames.{overLimits, notExpected, muxOf, bodyOf, frameWith, Held}
+use Rattle.codec.specs.Frames.{overLimits, notExpected, muxOf, bodyOf, frameWith}
+use Rattle.codec.specs.Held.{HeldFrame}
 use Rattle.codec.specs.Promise.{accepted, cleared, ReportBuildsBack, RequestBuildsBack}
 use Rattle.codec.specs.declared.rows.Row.{Row}
 use Rattle.codec.specs.declared.rows.Listing.{Listing}
@@ -119,7 +119,7 @@ passed identifier f h l =
 joined : (identifier : ℕ) (f : Frame) (bs : List ℕ) (place : ℕ) → Passed identifier f → f .length ≡ length bs → bs ++ replicate (8 - length bs) 0 ≡ take place (f .bytes) ++ replicate (8 - place) 0 → frameWith identifier (bodyOf bs) ≡ accepted (cleared place f)
 joined identifier f bs place p n e = rw (p .extended, p .same, n, e) refl
 
-first-bytes : (f : Frame) → Held f → (place : ℕ) → place ≤ 8 → part (f .bytes) 0 place ++ replicate (8 - length (part (f .bytes) 0 place)) 0 ≡ take place (f .bytes) ++ replicate (8 - place) 0
+first-bytes : (f : Frame) → HeldFrame f → (place : ℕ) → place ≤ 8 → part (f .bytes) 0 place ++ replicate (8 - length (part (f .bytes) 0 place)) 0 ≡ take place (f .bytes) ++ replicate (8 - place) 0
 first-bytes f held place h = rw (length-part (f .bytes) 0 place, take-part (f .bytes) place (omega (arith, held .eight))) refl
 
 word-listed : (m : ℕ) → 0x01 ≤ m → m ≤ 0x0B → (ltb m 0x01 || ltb 0x0B m) ≡ false
@@ -127,7 +127,7 @@ word-listed m h l = rw (le-ltb m 0x01 h, le-ltb 0x0B m l) refl
 
 -- ---- reports
 
-module _ (k : Kind) (identifier : ℕ) (f : Frame) (held : Held f) (p : Passed identifier f) where
+module _ (k : Kind) (identifier : ℕ) (f : Frame) (held : HeldFrame f) (p : Passed identifier f) where
   abbrev Rebuilt : Report → Type 0
   Rebuilt r = buildReport k identifier r ≡ accepted (cleared (cond (isSim100 k && eqb (muxOf f) 0xE5) 3 (f .length)) f)
 
@@ -164,7 +164,7 @@ module _ (k : Kind) (identifier : ℕ) (f : Frame) (held : Held f) (p : Passed i
       refl
       (ap (λ (l : List ℕ). muxOf f ∷ l) (bytes-at (f .bytes) (held .each) 1 4))
 
-module _ (identifier : ℕ) (f : Frame) (held : Held f) (p : Passed identifier f) where
+module _ (identifier : ℕ) (f : Frame) (held : HeldFrame f) (p : Passed identifier f) where
   flags-back : (k : Kind) → 0xE5 ≡ muxOf f → f .length ≡ flagsLength k → badStatus k (getD (f .bytes) 1 0) ≡ false → Rebuilt k identifier f held p (Errors (flagsIn k (f .bytes)))
   flags-back Sim100 e n s =
       let b = f .bytes in
@@ -185,32 +185,45 @@ module _ (identifier : ℕ) (f : Frame) (held : Held f) (p : Passed identifier f
 
   own-back : (k : Kind) → Each (λ (m : ℕ) (o : Option Line). Back k identifier f held p m (asRow o)) (own k ∷ [])
   own-back Sim100 =
-      let b = f .bytes in
-      (alone Sim100 identifier f held p 0xF0 (own Sim100)
-      (λ e n s. whole Sim100 identifier f held p (WorkingVoltage (numberAt b 1 2)) 3 (subst (λ (y : ℕ). eqb y 0xE5 ≡ false) e refl) (lit≤ tt) n refl refl
-      (ap (λ (l : List ℕ). 0xF0 ∷ l) (bytes-at b (held .each) 1 2) ∙ ap (λ (x : ℕ). x ∷ part b 1 2) e)),
-      tt)
+      let b = f .bytes in (
+        alone Sim100 identifier f held p 0xF0 (own Sim100)
+            (λ e n s. whole Sim100 identifier f held p (WorkingVoltage (numberAt b 1 2)) 3 (subst (λ (y : ℕ). eqb y 0xE5 ≡ false) e refl) (lit≤ tt) n refl refl
+            (ap (λ (l : List ℕ). 0xF0 ∷ l) (bytes-at b (held .each) 1 2) ∙ ap (λ (x : ℕ). x ∷ part b 1 2) e)),
+        tt,
+      )
   own-back Sim101 =
-      let b = f .bytes in
-      (alone Sim101 identifier f held p 0x80 (own Sim101)
-      (λ e n s. whole Sim101 identifier f held p (Temperature (signedOf 32 (numberAt b 1 4))) 5 (subst (λ (y : ℕ). eqb y 0xE5 ≡ false) e refl) (lit≤ tt) n refl refl
-      (ap (λ (w : ℕ). 0x80 ∷ bytesOf Big 4 w) (pattern-signed 31 (numberAt b 1 4) (omega (arith, byte-at b (held .each) 1, byte-at b (held .each) 2, byte-at b (held .each) 3, byte-at b (held .each) 4)))
-      ∙ ap (λ (l : List ℕ). 0x80 ∷ l) (bytes-at b (held .each) 1 4)
-      ∙ ap (λ (x : ℕ). x ∷ part b 1 4) e)),
-      tt)
+      let b = f .bytes in (
+        alone Sim101 identifier f held p 0x80 (own Sim101)
+            (λ e n s. whole Sim101 identifier f held p (Temperature (signedOf 32 (numberAt b 1 4))) 5 (subst (λ (y : ℕ). eqb y 0xE5 ≡ false) e refl) (lit≤ tt) n refl refl
+            (ap (λ (w : ℕ). 0x80 ∷ bytesOf Big 4 w) (pattern-signed 31 (numberAt b 1 4) (omega (arith, byte-at b (held .each) 1, byte-at b (held .each) 2, byte-at b (held .each) 3, byte-at b (held .each) 4)))
+            ∙ ap (λ (l : List ℕ). 0x80 ∷ l) (bytes-at b (held .each) 1 4)
+            ∙ ap (λ (x : ℕ). x ∷ part b 1 4) e)),
+        tt,
+      )
 
   lines-back : (k : Kind) → Each (λ (m : ℕ) (o : Option Line). Back k identifier f held p m (asRow o)) (table k)
   lines-back k =
       let b = f .bytes in
       let L : ℕ → Line = λ i. getD (table k) i (own k) in
-      let fits : (place : ℕ) → voltageMisfit k (voltageOf k (numberAt b place 2)) ≡ false = λ place. voltage-fits k (numberAt b place 2) (number-small b (held .each) place) in
-      (alone k identifier f held p 0xE0 (L 0) (λ e n s. measured k identifier f held p 0xE0 (IsolationState (estimatesIn b)) refl e n refl s (estimates-bytes b (held .each) 0xE0)),
-      (alone k identifier f held p 0xE1 (L 1) (λ e n s. measured k identifier f held p 0xE1 (Resistances (estimatesIn b)) refl e n refl s (estimates-bytes b (held .each) 0xE1)),
-      (alone k identifier f held p 0xE2 (L 2) (λ e n s. measured k identifier f held p 0xE2 (Capacitances (estimatesIn b)) refl e n refl s (estimates-bytes b (held .each) 0xE2)),
-      (alone k identifier f held p 0xE3 (L 3) (λ e n s. measured k identifier f held p 0xE3 (PoleVoltages (voltagesIn k b)) refl e n refl (rw (s, fits 2, fits 5) refl) (ap (estimatesBytes 0xE3) (voltages-raw b (held .each) k) ∙ estimates-bytes b (held .each) 0xE3)),
-      (alone k identifier f held p 0xE4 (L 4) (λ e n s. measured k identifier f held p 0xE4 (BatteryVoltage (batteryIn k b)) refl e n refl (rw (s, fits 2) refl) (ap (estimatesBytes 0xE4) (battery-raw b (held .each) k) ∙ estimates-bytes b (held .each) 0xE4)),
-      (alone k identifier f held p 0xE5 (L 5) (λ e n s. flags-back k e n s),
-      ((λ m h l e n s. word k identifier f held p m h l e n), own-back k)))))))
+      let fits : (place : ℕ) → voltageMisfit k (voltageOf k (numberAt b place 2)) ≡ false = λ place. voltage-fits k (numberAt b place 2) (number-small b (held .each) place) in (
+        alone k identifier f held p 0xE0 (L 0) (λ e n s. measured k identifier f held p 0xE0 (IsolationState (estimatesIn b)) refl e n refl s (estimates-bytes b (held .each) 0xE0)),
+        (
+          alone k identifier f held p 0xE1 (L 1) (λ e n s. measured k identifier f held p 0xE1 (Resistances (estimatesIn b)) refl e n refl s (estimates-bytes b (held .each) 0xE1)),
+          (
+            alone k identifier f held p 0xE2 (L 2) (λ e n s. measured k identifier f held p 0xE2 (Capacitances (estimatesIn b)) refl e n refl s (estimates-bytes b (held .each) 0xE2)),
+            (
+              alone k identifier f held p 0xE3 (L 3) (λ e n s. measured k identifier f held p 0xE3 (PoleVoltages (voltagesIn k b)) refl e n refl (rw (s, fits 2, fits 5) refl) (ap (estimatesBytes 0xE3) (voltages-raw b (held .each) k) ∙ estimates-bytes b (held .each) 0xE3)),
+              (
+                alone k identifier f held p 0xE4 (L 4) (λ e n s. measured k identifier f held p 0xE4 (BatteryVoltage (batteryIn k b)) refl e n refl (rw (s, fits 2) refl) (ap (estimatesBytes 0xE4) (battery-raw b (held .each) k) ∙ estimates-bytes b (held .each) 0xE4)),
+                (
+                  alone k identifier f held p 0xE5 (L 5) (λ e n s. flags-back k e n s),
+                  ((λ m h l e n s. word k identifier f held p m h l e n), own-back k),
+                ),
+              ),
+            ),
+          ),
+        ),
+      )
 
 -- ---- from a reading to its row
 
@@ -239,7 +252,7 @@ report-in k f r (Listed row report request) e g =
     (λ x. decided (wrongStatus k row (getD (f .bytes) 1 0))
     (λ y. not-read WrongStatus r (rw (x, y) at e))
     (λ y. let q : Read (reportOf k row (f .bytes)) ≡ Read r = rw (x, y) at e in
-      g row report request refl (eqb-true (f .length) report (not-false (eqb (f .length) report) x)) y (cc)))
+    g row report request refl (eqb-true (f .length) report (not-false (eqb (f .length) report) x)) y (cc)))
 
 pub report-builds-back : ReportBuildsBack
 unfolding readReport
@@ -248,17 +261,17 @@ report-builds-back k expected f r held e =
     (λ why q. not-read why r q)
     (λ p t. report-in k f r (rowOf k (muxOf f)) t
     (λ row report request l n s q.
-      subst (Rebuilt k expected f held p) q
-      (subst (Back k expected f held p (muxOf f)) l
-      (by-line (λ (m : ℕ) (o : Option Line). Back k expected f held p m (asRow o)) k (muxOf f) tt (lines-back expected f held p k))
-      refl
-      n
-      s)))
+    subst (Rebuilt k expected f held p) q
+    (subst (Back k expected f held p (muxOf f)) l
+    (by-line (λ (m : ℕ) (o : Option Line). Back k expected f held p m (asRow o)) k (muxOf f) tt (lines-back expected f held p k))
+    refl
+    n
+    s)))
     e
 
 -- ---- requests
 
-module _ (identifier : ℕ) (f : Frame) (held : Held f) (p : Passed identifier f) where
+module _ (identifier : ℕ) (f : Frame) (held : HeldFrame f) (p : Passed identifier f) where
   abbrev AskedAgain : Kind → Request → Type 0
   AskedAgain k r = buildRequest k identifier r ≡ accepted (cleared (cond (isSim100 k) (f .length) 1) f)
 
@@ -282,26 +295,38 @@ module _ (identifier : ℕ) (f : Frame) (held : Held f) (p : Passed identifier f
 
   own-asked : (k : Kind) → Each (λ (m : ℕ) (o : Option Line). AskBack k m (asRow o)) (own k ∷ [])
   own-asked Sim100 =
-      let b = f .bytes in
-      (ask-alone Sim100 0xF0 (own Sim100)
-      (λ e n. asked-again Sim100 (SetWorkingVoltage (numberAt b 1 2)) (part b 0 3) 3 refl
-      (ap (λ (l : List ℕ). 0xF0 ∷ l) (bytes-at b (held .each) 1 2) ∙ ap (λ (x : ℕ). x ∷ part b 1 2) e)
-      n
-      n
-      (first-bytes f held 3 (lit≤ tt))),
-      tt)
+      let b = f .bytes in (
+        ask-alone Sim100 0xF0 (own Sim100)
+            (λ e n. asked-again Sim100 (SetWorkingVoltage (numberAt b 1 2)) (part b 0 3) 3 refl
+            (ap (λ (l : List ℕ). 0xF0 ∷ l) (bytes-at b (held .each) 1 2) ∙ ap (λ (x : ℕ). x ∷ part b 1 2) e)
+            n
+            n
+            (first-bytes f held 3 (lit≤ tt))),
+        tt,
+      )
   own-asked Sim101 = (ask-alone Sim101 0x80 (own Sim101) (λ e n. plain Sim101 0x80 ReadTemperature refl refl e n), tt)
 
   lines-asked : (k : Kind) → Each (λ (m : ℕ) (o : Option Line). AskBack k m (asRow o)) (table k)
   lines-asked k =
-      let L : ℕ → Line = λ i. getD (table k) i (own k) in
-      (ask-alone k 0xE0 (L 0) (λ e n. plain k 0xE0 ReadIsolationState refl refl e n),
-      (ask-alone k 0xE1 (L 1) (λ e n. plain k 0xE1 ReadResistances refl refl e n),
-      (ask-alone k 0xE2 (L 2) (λ e n. plain k 0xE2 ReadCapacitances refl refl e n),
-      (ask-alone k 0xE3 (L 3) (λ e n. plain k 0xE3 ReadVoltages refl refl e n),
-      (ask-alone k 0xE4 (L 4) (λ e n. plain k 0xE4 ReadBattery refl refl e n),
-      (ask-alone k 0xE5 (L 5) (λ e n. plain k 0xE5 ReadErrorFlags refl refl e n),
-      ((λ m h l e n. plain k (muxOf f) (ReadWord (muxOf f)) (word-listed (muxOf f) (omega arith) (omega arith)) refl refl n), own-asked k)))))))
+      let L : ℕ → Line = λ i. getD (table k) i (own k) in (
+        ask-alone k 0xE0 (L 0) (λ e n. plain k 0xE0 ReadIsolationState refl refl e n),
+        (
+          ask-alone k 0xE1 (L 1) (λ e n. plain k 0xE1 ReadResistances refl refl e n),
+          (
+            ask-alone k 0xE2 (L 2) (λ e n. plain k 0xE2 ReadCapacitances refl refl e n),
+            (
+              ask-alone k 0xE3 (L 3) (λ e n. plain k 0xE3 ReadVoltages refl refl e n),
+              (
+                ask-alone k 0xE4 (L 4) (λ e n. plain k 0xE4 ReadBattery refl refl e n),
+                (
+                  ask-alone k 0xE5 (L 5) (λ e n. plain k 0xE5 ReadErrorFlags refl refl e n),
+                  ((λ m h l e n. plain k (muxOf f) (ReadWord (muxOf f)) (word-listed (muxOf f) (omega arith) (omega arith)) refl refl n), own-asked k),
+                ),
+              ),
+            ),
+          ),
+        ),
+      )
 
 request-in : {X : Type 0} (f : Frame) (r : Request) (l : Listing) → requestIn f l ≡ Asked r → ((row : Row) (report request : ℕ) → l ≡ Listed row report request → f .length ≡ request → requestOf row (f .bytes) ≡ r → X) → X
 request-in f r (Unlisted why) e g = not-asked why r e
@@ -309,7 +334,7 @@ request-in f r (Listed row report request) e g =
     decided (not (eqb (f .length) request))
     (λ x. not-asked WrongLength r (rw x at e))
     (λ x. let q : Asked (requestOf row (f .bytes)) ≡ Asked r = rw x at e in
-      g row report request refl (eqb-true (f .length) request (not-false (eqb (f .length) request) x)) (cc))
+    g row report request refl (eqb-true (f .length) request (not-false (eqb (f .length) request) x)) (cc))
 
 pub request-builds-back : RequestBuildsBack
 unfolding readRequest
@@ -318,9 +343,9 @@ request-builds-back k expected f r held e =
     (λ why q. not-asked why r q)
     (λ p t. request-in f r (rowOf k (muxOf f)) t
     (λ row report request l n q.
-      subst (AskedAgain expected f held p k) q
-      (subst (AskBack expected f held p k (muxOf f)) l
-      (by-line (λ (m : ℕ) (o : Option Line). AskBack expected f held p k m (asRow o)) k (muxOf f) tt (lines-asked expected f held p k))
-      refl
-      n)))
+    subst (AskedAgain expected f held p k) q
+    (subst (AskBack expected f held p k (muxOf f)) l
+    (by-line (λ (m : ℕ) (o : Option Line). AskBack expected f held p k m (asRow o)) k (muxOf f) tt (lines-asked expected f held p k))
+    refl
+    n)))
     e

@@ -1,14 +1,14 @@
 -- Conditions in order: the first that holds gives its refusal. Assumes nothing.
 use Prim.Native.Nat.{ℕ}
 use mathlib.Core.Path.{_≡_, refl, sym, _∙_}
-use mathlib.Core.Bool.{Bool, true, false, cond}
+use mathlib.Core.Bool.{cond}
 use mathlib.Core.List.{List, [], _∷_}
-use mathlib.Core.Logic.{_↔_, _⊎_, inl, inr}
+use mathlib.Core.Logic.{_↔_, inl, inr}
 use native.Mathlib.Omega.{arith}
 use lib.IntN.{ℤ}
 use Rattle.words.proofs.Tests.{decided, false-true}
 use Rattle.codec.specs.Answers.{Told, refusal, values}
-use Rattle.codec.specs.Promise.{Condition, First, None}
+use Rattle.codec.specs.Conditions.{Condition, First, None}
 
 abbrev pub pick : List Condition → Told → Told
 pick [] t = t

@@ -5,3 +5,4 @@ pub mod Reading
 pub mod Building
 pub mod ReadsBack
 pub mod BuildsBack
+pub mod Promise

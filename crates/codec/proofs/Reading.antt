@@ -1,35 +1,32 @@
 -- Reading: what is read is what the table says, and what is refused is refused by the first condition that holds. Assumes nothing.
-use Prim.Native.Nat.{ℕ, _+_, _*_, _/_, _%_, _<_, _≤_}
+use Prim.Native.Nat.{ℕ, _<_, _≤_}
 use mathlib.Core.Path.{_≡_, refl, ap, sym, _∙_}
-use mathlib.Core.Bool.{Bool, true, false, not, cond, _&&_, _||_}
+use mathlib.Core.Bool.{true, false, not}
 use mathlib.Core.List.{List, [], _∷_, map}
-use mathlib.Core.Option.{Option, none, some}
+use mathlib.Core.Option.{Option, some}
 use native.Mathlib.Omega.{arith}
 use borrow.Author.Tests.{le-leb, lt-leb}
-use lib.Dec.{leb, eqb, lit≤}
+use lib.Dec.{eqb, lit≤}
 use lib.IntN.{ℤ, pos}
 use lib.ListN.{getD, drop}
-use Rattle.words.proofs.Tests.{by-test, decided}
-use Rattle.words.specs.Words.{wordOf}
-use Rattle.words.specs.declared.Order.the-variants.{Big}
+use Rattle.words.proofs.Tests.{decided}
 use Rattle.refusal.specs.Refusals.{numberOf}
 use Rattle.refusal.specs.declared.Refusal.{Refusal}
-use Rattle.refusal.specs.declared.Refusal.the-variants.{OverLimits, NotExpected, NotListed, WrongLength, WrongStatus}
+use Rattle.refusal.specs.declared.Refusal.the-variants.{OverLimits, NotExpected, NotListed}
 use Rattle.codec.specs.declared.frame.Frame.{Frame}
 use Rattle.codec.specs.declared.rows.Kind.{Kind}
 use Rattle.codec.specs.declared.rows.Kind.the-variants.{Sim100, Sim101}
-use Rattle.codec.specs.declared.rows.Row.{Row}
 use Rattle.codec.specs.declared.rows.Listing.{Listing}
 use Rattle.codec.specs.declared.rows.Listing.the-variants.{Refused as Unlisted}
-use Rattle.codec.specs.declared.report.ReportReading.the-variants.{Read, Refused}
+use Rattle.codec.specs.declared.report.ReportReading.the-variants.{Read}
 use Rattle.codec.specs.declared.request.RequestReading.the-variants.{Read as Asked}
 use Rattle.codec.specs.Frames.{overLimits, notExpected, muxOf}
 use Rattle.codec.specs.Table.{Field, Line, unsigned, estimatesOf, voltageAt, flagsOf, valueIn, numberAt, table, own, lineOf, asRow, rowOf, frameRow}
-use Rattle.codec.specs.Answers.{Told, refusal, values, toldReport, toldRequest, reportMux, reportValues}
-use Rattle.codec.specs.Reports.{voltageOf, flagsIn, badStatus, hasStatus, wrongStatus, reportOf, readRow, reportIn, readReport}
+use Rattle.codec.specs.Answers.{Told, refusal, values, toldReport, toldRequest}
+use Rattle.codec.specs.Reports.{voltageOf, flagsIn, badStatus, hasStatus, wrongStatus, reportOf, reportIn, readReport}
 use Rattle.codec.specs.Requests.{requestOf, requestIn, readRequest}
-use Rattle.codec.specs.Building.{isSim100}
-use Rattle.codec.specs.Promise.{Condition, _when_, isNone, notListed, reportLength, requestLengthOf, reportFields, requestFields, fiveOf, reportConditions, requestConditions, tableReport, tableRequest, ReportRead, RequestRead}
+use Rattle.codec.specs.Conditions.{Condition, _when_, isNone, notListed, reportLength, requestLengthOf, reportFields, requestFields, fiveOf, reportConditions, requestConditions, tableReport, tableRequest}
+use Rattle.codec.specs.Promise.{ReportRead, RequestRead}
 use Rattle.codec.proofs.Table.{Each, by-line, just}
 use Rattle.codec.proofs.Conditions.{pick, pick-none, pick-exactly}
 
@@ -67,8 +64,8 @@ module _ (k : Kind) (f : Frame) where
       m ≡ muxOf f →
       toldReport (reportIn k f (asRow o))
       ≡ pick
-        ((3 when isNone o) ∷ (4 when not (eqb (f .length) (reportLength o))) ∷ (5 when fiveOf k m (getD (f .bytes) 1 0)) ∷ [])
-        (values m (map (valueIn (f .bytes)) (reportFields o)))
+      ((3 when isNone o) ∷ (4 when not (eqb (f .length) (reportLength o))) ∷ (5 when fiveOf k m (getD (f .bytes) 1 0)) ∷ [])
+      (values m (map (valueIn (f .bytes)) (reportFields o)))
 
   -- a line says it where it is right about the status and about the values
   says : (m : ℕ) (l : Line) → wrongStatus k (l .row) (getD (f .bytes) 1 0) ≡ fiveOf k m (getD (f .bytes) 1 0) → (m ≡ muxOf f → toldReport (Read (reportOf k (l .row) (f .bytes))) ≡ values m (map (valueIn (f .bytes)) (l .fields))) → Says m (some l)
@@ -103,14 +100,25 @@ lines k f =
     let b = f .bytes in
     let e0 = estimates-fields b (unsigned 2 2) (unsigned 5 2) (pos (numberAt b 2 2)) (pos (numberAt b 5 2)) refl refl in
     let e3 = estimates-fields b (voltageAt k 2) (voltageAt k 5) (voltageOf k (numberAt b 2 2)) (voltageOf k (numberAt b 5 2)) (voltage-field k b 2) (voltage-field k b 5) in
-    let e4 = estimates-fields b (voltageAt k 2) (unsigned 5 2) (voltageOf k (numberAt b 2 2)) (pos (numberAt b 5 2)) (voltage-field k b 2) refl in
-    (measured k f 0xE0 0 (lit≤ tt) (lit≤ tt) refl (ap (values 0xE0) e0),
-    (measured k f 0xE1 1 (lit≤ tt) (lit≤ tt) refl (ap (values 0xE1) e0),
-    (measured k f 0xE2 2 (lit≤ tt) (lit≤ tt) refl (ap (values 0xE2) e0),
-    (measured k f 0xE3 3 (lit≤ tt) (lit≤ tt) refl (ap (values 0xE3) e3),
-    (measured k f 0xE4 4 (lit≤ tt) (lit≤ tt) refl (ap (values 0xE4) e4),
-    (measured k f 0xE5 5 (lit≤ tt) (lit≤ tt) refl (ap (values 0xE5) (flags-fields k b)),
-    (word k f, own-line k f)))))))
+    let e4 = estimates-fields b (voltageAt k 2) (unsigned 5 2) (voltageOf k (numberAt b 2 2)) (pos (numberAt b 5 2)) (voltage-field k b 2) refl in (
+      measured k f 0xE0 0 (lit≤ tt) (lit≤ tt) refl (ap (values 0xE0) e0),
+      (
+        measured k f 0xE1 1 (lit≤ tt) (lit≤ tt) refl (ap (values 0xE1) e0),
+        (
+          measured k f 0xE2 2 (lit≤ tt) (lit≤ tt) refl (ap (values 0xE2) e0),
+          (
+            measured k f 0xE3 3 (lit≤ tt) (lit≤ tt) refl (ap (values 0xE3) e3),
+            (
+              measured k f 0xE4 4 (lit≤ tt) (lit≤ tt) refl (ap (values 0xE4) e4),
+              (
+                measured k f 0xE5 5 (lit≤ tt) (lit≤ tt) refl (ap (values 0xE5) (flags-fields k b)),
+                (word k f, own-line k f),
+              ),
+            ),
+          ),
+        ),
+      ),
+    )
 
 -- ---- 1, 2, 3: the same for reports and requests
 
@@ -137,7 +145,7 @@ report-read k expected f =
     let cs = reportConditions k expected f in
     record {
       refused = λ n. rw (report-told k expected f) (pick-exactly cs (muxOf f) n (map (valueIn (f .bytes)) (reportFields (lineOf k (muxOf f)))));
-      answered = λ h. report-told k expected f ∙ pick-none cs (tableReport k f) h
+      answered = λ h. report-told k expected f ∙ pick-none cs (tableReport k f) h;
     }
 
 -- ---- requests, line by line
@@ -148,8 +156,8 @@ module _ (f : Frame) where
       m ≡ muxOf f →
       toldRequest (requestIn f (asRow o))
       ≡ pick
-        ((3 when isNone o) ∷ (4 when not (eqb (f .length) (requestLengthOf o))) ∷ [])
-        (values m (map (valueIn (f .bytes)) (requestFields o)))
+      ((3 when isNone o) ∷ (4 when not (eqb (f .length) (requestLengthOf o))) ∷ [])
+      (values m (map (valueIn (f .bytes)) (requestFields o)))
 
   asks : (m : ℕ) (l : Line) → (m ≡ muxOf f → toldRequest (Asked (requestOf (l .row) (f .bytes))) ≡ values m (map (valueIn (f .bytes)) (l .asked))) → Asks m (some l)
   asks m l fields e =
@@ -163,14 +171,25 @@ module _ (f : Frame) where
   own-asked Sim101 = (asked 0x80 (own Sim101) refl, tt)
 
   asked-lines : (k : Kind) → Each Asks (table k)
-  asked-lines k =
-      (asked 0xE0 (L k f 0) refl,
-      (asked 0xE1 (L k f 1) refl,
-      (asked 0xE2 (L k f 2) refl,
-      (asked 0xE3 (L k f 3) refl,
-      (asked 0xE4 (L k f 4) refl,
-      (asked 0xE5 (L k f 5) refl,
-      ((λ m h l. asks m (L k f 6) (λ e. ap (λ (x : ℕ). values x []) (sym e))), own-asked k)))))))
+  asked-lines k = (
+    asked 0xE0 (L k f 0) refl,
+    (
+      asked 0xE1 (L k f 1) refl,
+      (
+        asked 0xE2 (L k f 2) refl,
+        (
+          asked 0xE3 (L k f 3) refl,
+          (
+            asked 0xE4 (L k f 4) refl,
+            (
+              asked 0xE5 (L k f 5) refl,
+              ((λ m h l. asks m (L k f 6) (λ e. ap (λ (x : ℕ). values x []) (sym e))), own-asked k),
+            ),
+          ),
+        ),
+      ),
+    ),
+  )
 
 request-told : (k : Kind) (expected : ℕ) (f : Frame) → toldRequest (readRequest k expected f) ≡ pick (requestConditions k expected f) (tableRequest k f)
 unfolding readRequest
@@ -184,5 +203,5 @@ request-read k expected f =
     let cs = requestConditions k expected f in
     record {
       refused = λ n. rw (request-told k expected f) (pick-exactly cs (muxOf f) n (map (valueIn (f .bytes)) (requestFields (lineOf k (muxOf f)))));
-      answered = λ h. request-told k expected f ∙ pick-none cs (tableRequest k f) h
+      answered = λ h. request-told k expected f ∙ pick-none cs (tableRequest k f) h;
     }

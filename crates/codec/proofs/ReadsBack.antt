@@ -1,19 +1,18 @@
 -- Built frames read back as the same values. Assumes nothing.
-use Prim.Native.Nat.{ℕ, _+_, _*_, _/_, _%_, _^_, _<_, _≤_}
-use mathlib.Core.Path.{_≡_, refl, ap, sym, subst, _∙_}
-use mathlib.Core.Bool.{Bool, true, false, not, cond, _&&_, _||_}
-use mathlib.Core.List.{List, [], _∷_, _++_}
-use mathlib.Core.Option.{Option, none, some}
+use Prim.Native.Nat.{ℕ, _<_}
+use mathlib.Core.Path.{_≡_, refl, ap, subst, _∙_}
+use mathlib.Core.Bool.{true, false, not, _||_}
+use mathlib.Core.List.{List, _∷_}
 use native.Mathlib.Nat.{mod-eq-of-lt}
 use native.Mathlib.Omega.{arith}
 use borrow.Author.Tests.{eq-eqb, ltb-true, ltb-false, not-false}
-use lib.Dec.{ltb, leb, eqb}
+use lib.Dec.{ltb, eqb}
 use lib.IntN.{ℤ, pos, negsuc}
 use lib.ListN.{getD, length, replicate}
 use Rattle.words.proofs.Tests.{decided, false-true, or-left, or-right}
 use Rattle.words.proofs.Words.{word-bytes}
 use Rattle.words.proofs.Signed.{signed-pattern, pattern-fits}
-use Rattle.words.specs.Signed.{signedOf, patternOf, holds, holdsUnsigned}
+use Rattle.words.specs.Signed.{signedOf, patternOf, holds}
 use Rattle.words.specs.declared.Order.the-variants.{Big}
 use Rattle.refusal.specs.declared.Refusal.{Refusal}
 use Rattle.refusal.specs.declared.Refusal.the-variants.{OverLimits, NotListed, DoesNotFit}
@@ -36,11 +35,12 @@ use Rattle.codec.specs.declared.request.Request.{Request}
 use Rattle.codec.specs.declared.request.Request.the-variants.{ReadIsolationState, ReadResistances, ReadCapacitances, ReadVoltages, ReadBattery, ReadErrorFlags, ReadWord, ReadTemperature, SetWorkingVoltage}
 use Rattle.codec.specs.declared.request.RequestReading.the-variants.{Read as Asked}
 use Rattle.codec.specs.Requests.{requestOf, readRequest, unlistedRequest, readBytes, requestBytes, buildRequest}
-use Rattle.codec.specs.Frames.{muxOf, bodyOf, frameOf, frameWith, refused}
+use Rattle.codec.specs.Frames.{bodyOf, frameOf, frameWith, refused}
 use Rattle.codec.specs.Table.{rowOf, lineOf, frameRow, requestLength, flagsLength}
-use Rattle.codec.specs.Reports.{voltageOf, badStatus, wrongStatus, estimatesIn, voltagesIn, batteryIn, flagsIn, reportOf, readReport}
+use Rattle.codec.specs.Reports.{voltageOf, badStatus, wrongStatus, estimatesIn, voltagesIn, batteryIn, reportOf, readReport}
 use Rattle.codec.specs.Building.{isSim100, unlisted, voltageMisfit, flagsMisfit, misfit, estimatesBytes, voltagesRaw, voltagesBytes, batteryRaw, batteryBytes, flagsBytes, wordBytes, voltageBytes, reportBytes, buildReport}
-use Rattle.codec.specs.Promise.{HeldReport, HeldRequest, accepted, ReportReadsBack, RequestReadsBack}
+use Rattle.codec.specs.Held.{HeldReport, HeldRequest}
+use Rattle.codec.specs.Promise.{accepted, ReportReadsBack, RequestReadsBack}
 use Rattle.codec.proofs.Table.{word-row}
 
 -- ---- the values of a row come back from its bytes
@@ -146,7 +146,7 @@ report-reads-back k identifier r f h e =
     (λ y. decided (misfit k r)
     (λ z. not-accepted DoesNotFit f (rw (x, y, z) at e))
     (λ z. let q : frameWith identifier (bodyOf (reportBytes k r)) ≡ accepted f = rw (x, y, z) at e in
-      subst (λ (g : Frame). readReport k identifier g ≡ Read r) (ap (λ (b : Built). b .frame) q) (read-report identifier x k r y z h))))
+    subst (λ (g : Frame). readReport k identifier g ≡ Read r) (ap (λ (b : Built). b .frame) q) (read-report identifier x k r y z h))))
 
 -- ---- requests
 
@@ -195,4 +195,4 @@ request-reads-back k identifier r f h e =
     (λ x. decided (unlistedRequest k r)
     (λ y. not-accepted NotListed f (rw (x, y) at e))
     (λ y. let q : frameWith identifier (bodyOf (requestBytes k r)) ≡ accepted f = rw (x, y) at e in
-      subst (λ (g : Frame). readRequest k identifier g ≡ Asked r) (ap (λ (b : Built). b .frame) q) (read-request identifier x k r y h)))
+    subst (λ (g : Frame). readRequest k identifier g ≡ Asked r) (ap (λ (b : Built). b .frame) q) (read-request identifier x k r y h)))

@@ -9,9 +9,6 @@ use Rattle.codec.specs.declared.frame.Built.{Built}
 use Rattle.codec.specs.declared.frame.Answer.{Answer}
 use Rattle.codec.specs.declared.frame.Answer.the-variants.{Accepted, Refused as NotBuilt}
 use Rattle.codec.specs.declared.report.Estimates.{Estimates}
-use Rattle.codec.specs.declared.report.Voltages.{Voltages}
-use Rattle.codec.specs.declared.report.Battery.{Battery}
-use Rattle.codec.specs.declared.report.ErrorFlags.{ErrorFlags}
 use Rattle.codec.specs.declared.report.Report.{Report}
 use Rattle.codec.specs.declared.report.Report.the-variants.{IsolationState, Resistances, Capacitances, PoleVoltages, BatteryVoltage, Errors, Word, Temperature, WorkingVoltage}
 use Rattle.codec.specs.declared.report.ReportReading.{ReportReading}

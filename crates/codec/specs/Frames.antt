@@ -1,11 +1,9 @@
 -- Frames: document 01's refusals 1 and 2, and the frames that are built.
 use Prim.Native.Nat.{ℕ, _-_}
-use mathlib.Core.Path.{_≡_}
 use mathlib.Core.Bool.{Bool, true, false, not, _||_, _&&_}
 use mathlib.Core.List.{List, _++_}
 use lib.Dec.{ltb, eqb}
 use lib.ListN.{length, getD, replicate}
-use Rattle.words.specs.Words.{Bytes}
 use Rattle.refusal.specs.declared.Refusal.{Refusal}
 use Rattle.codec.specs.declared.frame.Frame.{Frame}
 use Rattle.codec.specs.declared.frame.Body.{Body}
@@ -44,8 +42,3 @@ blank = record { extended = false; identifier = 0; length = 0; bytes = replicate
 
 abbrev pub refused : Refusal → Built
 refused why = record { answer = Refused why; frame = blank }
-
--- what the type of a frame already says: eight bytes, each below 256
-pub record Held (f : Frame) : Type 0 where
-  pub eight : length (f .bytes) ≡ 8
-  pub each : Bytes (f .bytes)

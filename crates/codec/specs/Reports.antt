@@ -1,17 +1,13 @@
 -- Reports: what each row of the table says, read from a frame's bytes and built into a frame.
-use Prim.Native.Nat.{ℕ, _+_, _/_, _%_}
+use Prim.Native.Nat.{ℕ, _/_, _%_}
 use mathlib.Core.Bool.{Bool, true, false, not, cond, _&&_, _||_}
-use mathlib.Core.List.{List, [], _∷_, _++_}
-use lib.Dec.{ltb, leb, eqb}
-use lib.IntN.{ℤ, pos, negsuc}
+use mathlib.Core.List.{List}
+use lib.Dec.{eqb}
+use lib.IntN.{ℤ, pos}
 use lib.ListN.{getD}
-use Rattle.words.specs.declared.Order.the-variants.{Big}
-use Rattle.words.specs.Words.{wordOf, bytesOf}
-use Rattle.words.specs.Signed.{signedOf, patternOf, holds}
-use Rattle.refusal.specs.declared.Refusal.{Refusal}
-use Rattle.refusal.specs.declared.Refusal.the-variants.{OverLimits, NotListed, WrongLength, WrongStatus, DoesNotFit}
+use Rattle.words.specs.Signed.{signedOf}
+use Rattle.refusal.specs.declared.Refusal.the-variants.{WrongLength, WrongStatus}
 use Rattle.codec.specs.declared.frame.Frame.{Frame}
-use Rattle.codec.specs.declared.frame.Built.{Built}
 use Rattle.codec.specs.declared.rows.Kind.{Kind}
 use Rattle.codec.specs.declared.rows.Kind.the-variants.{Sim100, Sim101}
 use Rattle.codec.specs.declared.rows.Row.{Row}
@@ -26,7 +22,6 @@ use Rattle.codec.specs.declared.report.Report.{Report}
 use Rattle.codec.specs.declared.report.Report.the-variants.{IsolationState, Resistances, Capacitances, PoleVoltages, BatteryVoltage, Errors, Word, Temperature, WorkingVoltage}
 use Rattle.codec.specs.declared.report.ReportReading.{ReportReading}
 use Rattle.codec.specs.declared.report.ReportReading.the-variants.{Read, Refused}
-use Rattle.codec.specs.Frames.{bodyOf, frameWith, refused}
 use Rattle.codec.specs.Table.{numberAt, frameRow}
 
 -- ---- status

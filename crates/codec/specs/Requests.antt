@@ -1,7 +1,7 @@
 -- Requests: "The host sends .. Byte 0 is the multiplexer, repeated in the report. A SIM100 read request has length 1. A SIM101
 -- request has length 3, bytes 1 and 2 zero when we build it and ignored when we read it." F0 carries a working voltage.
 use Prim.Native.Nat.{ℕ}
-use mathlib.Core.Bool.{Bool, true, false, not, cond, _||_}
+use mathlib.Core.Bool.{Bool, false, not, cond, _||_}
 use mathlib.Core.List.{List, [], _∷_}
 use lib.Dec.{ltb, eqb}
 use lib.ListN.{getD}

@@ -1,6 +1,6 @@
 // Frames, and what document 01 asks of every one: refusals 1 and 2.
 ghost use mathlib.Core.Path.{_≡_};
-ghost use Rattle.codec.specs.Frames.{overLimits, notExpected, frameWith, blank, refused};
+ghost use Rattle.codec.specs.Frames.{overLimits, notExpected, frameWith, refused};
 use refusal::Refusal;
 
 // A frame as it came: any number may stand in any field. Bytes past the length are no part of the frame.

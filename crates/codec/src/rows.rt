@@ -2,6 +2,7 @@
 ghost use mathlib.Core.Path.{_≡_};
 ghost use Rattle.codec.specs.Table.{rowOf, measurementRow, frameRow};
 ghost use Rattle.codec.specs.declared.rows.Kind.{Kind};
+ghost use Rattle.codec.specs.declared.rows.Listing.{Listing};
 use crate::frame::Frame;
 use crate::frame::not_expected;
 use crate::frame::over_limits;
@@ -45,25 +46,23 @@ fn measurement_row(mux: u8) -> Row
     }
 }
 
+fn listed(row: Row, report: u8, request: u8) -> Listing
+    ensures { λ r. ⌜ r ≡ Listing.Listed row report request ⌝ }
+{
+    Listing::Listed {
+        row,
+        report,
+        request,
+    }
+}
+
 fn sim100_row(mux: u8) -> Listing
     ensures { λ r. ⌜ r ≡ rowOf Kind.Sim100 mux ⌝ }
 {
     match mux {
-        0xF0 => Listing::Listed {
-            row: Row::MuxF0,
-            report: 3,
-            request: 3,
-        },
-        0x01..=0x0B => Listing::Listed {
-            row: Row::Mux01To0B,
-            report: 5,
-            request: 1,
-        },
-        0xE0..=0xE5 => Listing::Listed {
-            row: measurement_row(mux),
-            report: 8,
-            request: 1,
-        },
+        0xF0 => listed(Row::MuxF0, 3, 3),
+        0x01..=0x0B => listed(Row::Mux01To0B, 5, 1),
+        0xE0..=0xE5 => listed(measurement_row(mux), 8, 1),
         _ => Listing::Refused(Refusal::NotListed),
     }
 }
@@ -72,26 +71,10 @@ fn sim101_row(mux: u8) -> Listing
     ensures { λ r. ⌜ r ≡ rowOf Kind.Sim101 mux ⌝ }
 {
     match mux {
-        0x80 => Listing::Listed {
-            row: Row::Mux80,
-            report: 5,
-            request: 3,
-        },
-        0xE5 => Listing::Listed {
-            row: Row::MuxE5,
-            report: 4,
-            request: 3,
-        },
-        0x01..=0x0B => Listing::Listed {
-            row: Row::Mux01To0B,
-            report: 5,
-            request: 3,
-        },
-        0xE0..=0xE5 => Listing::Listed {
-            row: measurement_row(mux),
-            report: 8,
-            request: 3,
-        },
+        0x80 => listed(Row::Mux80, 5, 3),
+        0xE5 => listed(Row::MuxE5, 4, 3),
+        0x01..=0x0B => listed(Row::Mux01To0B, 5, 3),
+        0xE0..=0xE5 => listed(measurement_row(mux), 8, 3),
         _ => Listing::Refused(Refusal::NotListed),
     }
 }

@@ -51,7 +51,7 @@ signed-held w n h =
     decided (ltb (n + n) (2 ^ suc w))
     (λ t. rw (t, t) refl)
     (λ t. let p : 2 ^ suc w ≡ 2 ^ w * 2 = pow-suc 2 w in
-      rw t (lt-ltb (2 ^ suc w - 1 - n + (2 ^ suc w - 1 - n)) (2 ^ suc w) (omega (arith, ltb-false (n + n) (2 ^ suc w) t))))
+    rw t (lt-ltb (2 ^ suc w - 1 - n + (2 ^ suc w - 1 - n)) (2 ^ suc w) (omega (arith, ltb-false (n + n) (2 ^ suc w) t))))
 
 pub pattern-fits : (width : ℕ) (z : ℤ) → patternOf width z < 2 ^ width
 pattern-fits width (pos n) = mod-lt n (pow-pos width)

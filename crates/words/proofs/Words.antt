@@ -1,6 +1,6 @@
 -- Words: taking a number apart and putting it together are inverse, at every width and in both orders. Assumes nothing.
 use Prim.Native.Nat.{ℕ, zero, suc, _+_, _*_, _/_, _%_, _^_, _<_}
-use mathlib.Core.Path.{_≡_, refl, ap, sym, subst, _∙_}
+use mathlib.Core.Path.{_≡_, refl, ap, sym, _∙_}
 use mathlib.Core.List.{List, [], _∷_, reverse, reverseAux, reverse-reverse}
 use native.Mathlib.Nat.{pow-suc}
 use native.Mathlib.Omega.{arith}

@@ -1,6 +1,6 @@
 -- Signed numbers in two's complement, over the width in bits: of the 2 ^ width patterns the lower half stands for itself, the
 -- upper half for itself less 2 ^ width. So FF 9C, which is 65436, is minus 100 at 16 bits.
-use Prim.Native.Nat.{ℕ, suc, _+_, _-_, _%_, _^_, _<_}
+use Prim.Native.Nat.{ℕ, _+_, _-_, _%_, _^_}
 use mathlib.Core.Bool.{Bool, true, false}
 use lib.Dec.{ltb}
 use lib.IntN.{ℤ, pos, negsuc}

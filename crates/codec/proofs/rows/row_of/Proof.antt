@@ -1,5 +1,4 @@
 -- `codec::rows::row_of` meets its contract: by the kind. Assumes nothing.
-use mathlib.Core.Path.{sym}
 use borrow.Author.Needs.{needs}
 use Rattle.codec.proofs.rows.row_of.Statement.{statement}
 use Rattle.codec.proofs.rows.row_of.Tie as tie

@@ -1,32 +1,32 @@
 -- `codec::rows::sim101_row` meets its contract: each arm is a row of the table, and what no arm has no row has. Assumes nothing.
-use mathlib.Core.Path.{_≡_, refl, sym}
-use native.Mathlib.Omega.{arith}
+use mathlib.Core.Path.{_≡_, refl, sym, _∙_}
 use Rattle.codec.specs.declared.rows.Kind.the-variants.{Sim101}
 use Rattle.codec.specs.declared.rows.Listing.the-variants.{Listed}
 use Rattle.codec.specs.Table.{lineOf, rowOf, measurementRow}
 use Rattle.codec.proofs.Table.{word-row, six, unlisted, apart}
+use native.Mathlib.Omega.{arith}
 use Rattle.codec.proofs.rows.sim101_row.Statement.{statement}
 use Rattle.codec.proofs.rows.sim101_row.Tie as tie
 
 returns : tie.Need-returns
 unfolding lineOf
-returns c = rw (c .match .keys1)
+returns c = rw (c .before .match .keys1) (c .listed .ensures)
 
 returns-2 : tie.Need-returns-2
 unfolding lineOf
-returns-2 c = rw (c .match .keys2)
+returns-2 c = rw (c .before .match .keys2) (c .listed2 .ensures)
 
 returns-3 : tie.Need-returns-3
-returns-3 c = sym (word-row Sim101 (c .before .before .before .args .mux) (omega arith) (omega arith))
+returns-3 c = c .listed3 .ensures ∙ sym (word-row Sim101 (c .before .before .before .before .args .mux) (omega arith) (omega arith))
 
 returns-4 : tie.Need-returns-4
 unfolding lineOf
 returns-4 c =
-    rw (c .measurement-row .ensures)
+    rw (c .listed4 .ensures, c .before .measurement-row .ensures)
     (sym
     (six (λ m. (m ≡ 0xE5 → ⊥) → rowOf Sim101 m ≡ Listed (measurementRow m) 8 3)
     (λ n. refl) (λ n. refl) (λ n. refl) (λ n. refl) (λ n. refl) (λ n. absurd (n refl))
-    (c .before .before .before .before .before .before .args .mux) (omega arith) (omega arith) (c .before .before .before .before .before .match .rest .1)))
+    (c .before .before .before .before .before .before .before .args .mux) (omega arith) (omega arith) (c .before .before .before .before .before .before .match .rest .1)))
 
 returns-5 : tie.Need-returns-5
 unfolding lineOf
@@ -42,4 +42,4 @@ returns-7 c = sym (unlisted Sim101 0xE5 0x100 (c .before .before .before .before
 
 pub sim101-row-spec : {M : Type 1} → statement M
 sim101-row-spec =
-    tie.close (tie.spec (λ c κs. tt) returns returns-2 returns-3 returns-4 returns-5 returns-6 returns-7)
+    tie.close (tie.spec (λ c κs. tt) (λ c κs. tt) (λ c κs. tt) (λ c κs. tt) (λ c κs. tt) returns returns-2 returns-3 returns-4 returns-5 returns-6 returns-7)

@@ -1,0 +1,19 @@
+-- The codec keeps its promise. Assumes nothing.
+use Rattle.codec.specs.Promise.{Promise}
+use Rattle.codec.proofs.Reading.{report-read, request-read}
+use Rattle.codec.proofs.Building.{report-built, request-built}
+use Rattle.codec.proofs.ReadsBack.{report-reads-back, request-reads-back}
+use Rattle.codec.proofs.BuildsBack.{report-builds-back, request-builds-back}
+
+pub promise : Promise
+promise =
+    record {
+      reports-read = report-read;
+      requests-read = request-read;
+      reports-built = report-built;
+      requests-built = request-built;
+      reports-read-back = report-reads-back;
+      requests-read-back = request-reads-back;
+      reports-build-back = report-builds-back;
+      requests-build-back = request-builds-back;
+    }

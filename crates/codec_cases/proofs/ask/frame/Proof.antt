@@ -1,0 +1,11 @@
+-- `codec_cases::ask::frame` meets its contract: each field is its bytes. Assumes nothing.
+use borrow.Author.Needs.{needs}
+use Rattle.codec_cases.proofs.ask.frame.Statement.{statement}
+use Rattle.codec_cases.proofs.ask.frame.Tie as tie
+
+returns : tie.Need-returns
+returns c = rw (c .first32 .ensures)
+
+pub frame-spec : {M : Type 1} → statement M
+frame-spec =
+    tie.close (tie.spec (λ c. search needs) (λ c κs. tt) (λ c. search needs) (λ c. search needs) (λ c. search needs) (λ c. search needs) (λ c. search needs) (λ c. search needs) (λ c. search needs) (λ c. search needs) (λ c. search needs) returns)
