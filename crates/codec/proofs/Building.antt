@@ -1,7 +1,7 @@
 -- Building: a value is refused by 6 exactly when it does not fit its field in the table, or breaks the rule of 5. Assumes nothing.
 use Prim.Native.Nat.{ℕ, _^_, _<_, _≤_}
 use mathlib.Core.Path.{_≡_, refl, ap, sym, _∙_}
-use mathlib.Core.Bool.{Bool, true, false, not, cond, _&&_, _||_, and-true, or-false}
+use mathlib.Core.Bool.{Bool, true, false, not, cond, _&&_, _||_, and-true, or-false, or-true}
 use mathlib.Core.List.{List, [], _∷_, map}
 use native.Mathlib.Omega.{arith}
 use borrow.Author.Tests.{lt-ltb, ltb-false}
@@ -19,6 +19,7 @@ use Rattle.codec.specs.declared.report.ErrorFlags.{ErrorFlags}
 use Rattle.codec.specs.declared.report.Report.{Report}
 use Rattle.codec.specs.declared.report.Report.the-variants.{IsolationState, Resistances, Capacitances, PoleVoltages, BatteryVoltage, Errors, Word, Temperature, WorkingVoltage}
 use Rattle.codec.specs.declared.request.Request.{Request}
+use Rattle.codec.specs.declared.request.Request.the-variants.{ReadIsolationState, ReadResistances, ReadCapacitances, ReadVoltages, ReadBattery, ReadErrorFlags, ReadWord, ReadTemperature, SetWorkingVoltage}
 use Rattle.refusal.specs.declared.Refusal.the-variants.{OverLimits, NotListed, DoesNotFit}
 use Rattle.codec.specs.Frames.{bodyOf, frameWith, refused, blank}
 use Rattle.codec.specs.Table.{Field, lineOf, unsigned, estimatesOf, voltageAt, flagsOf}
@@ -26,7 +27,7 @@ use Rattle.codec.specs.Answers.{estimates, toldBuilt}
 use Rattle.codec.specs.Reports.{badStatus}
 use Rattle.codec.specs.Building.{isSim100, unlisted, voltageMisfit, flagsMisfit, misfit, reportBytes, buildReport}
 use Rattle.codec.specs.Requests.{unlistedRequest, requestBytes, buildRequest}
-use Rattle.codec.specs.Conditions.{_when_, fits, allFit, fiveOf, sixOf, reportBuildConditions, requestBuildConditions}
+use Rattle.codec.specs.Conditions.{_when_, isNone, threeOf, threeAsked, fits, allFit, fiveOf, sixOf, reportBuildConditions, requestBuildConditions}
 use Rattle.codec.specs.Held.{HeldEstimates, HeldReport}
 use Rattle.codec.specs.Promise.{ReportBuilt, RequestBuilt}
 use Rattle.codec.proofs.Table.{word-line}
@@ -99,6 +100,49 @@ six-is k (Word mux w) h u =
 six-is k (Temperature z) h u = temperature-six k z u h
 six-is k (WorkingVoltage v) h u = voltage-six k v u h
 
+-- ---- threeOf
+
+-- 01 to 0B have a line; any other number is stray as a word
+word-three : (k : Kind) (mux : ℕ) → (ltb mux 0x01 || ltb 0x0B mux) ≡ (isNone (lineOf k mux) || (ltb mux 0x01 || ltb 0x0B mux))
+word-three k mux =
+    decided (ltb mux 0x01 || ltb 0x0B mux)
+    (λ t. rw (t, or-true (isNone (lineOf k mux))) refl)
+    (λ t. rw (t, word-line k mux (ltb-false mux 0x01 (or-left (ltb mux 0x01) (ltb 0x0B mux) t)) (ltb-false 0x0B mux (or-right (ltb mux 0x01) (ltb 0x0B mux) t))) refl)
+
+temperature-three : (k : Kind) → isSim100 k ≡ (isNone (lineOf k 0x80) || false)
+unfolding lineOf
+temperature-three Sim100 = refl
+temperature-three Sim101 = refl
+
+voltage-three : (k : Kind) → not (isSim100 k) ≡ (isNone (lineOf k 0xF0) || false)
+unfolding lineOf
+voltage-three Sim100 = refl
+voltage-three Sim101 = refl
+
+three-is : (k : Kind) (r : Report) → unlisted k r ≡ threeOf k r
+unfolding lineOf
+three-is k (IsolationState e) = refl
+three-is k (Resistances e) = refl
+three-is k (Capacitances e) = refl
+three-is k (PoleVoltages v) = refl
+three-is k (BatteryVoltage b) = refl
+three-is k (Errors e) = refl
+three-is k (Word mux w) = word-three k mux
+three-is k (Temperature z) = temperature-three k
+three-is k (WorkingVoltage v) = voltage-three k
+
+three-asked : (k : Kind) (r : Request) → unlistedRequest k r ≡ threeAsked k r
+unfolding lineOf
+three-asked k ReadIsolationState = refl
+three-asked k ReadResistances = refl
+three-asked k ReadCapacitances = refl
+three-asked k ReadVoltages = refl
+three-asked k ReadBattery = refl
+three-asked k ReadErrorFlags = refl
+three-asked k (ReadWord mux) = word-three k mux
+three-asked k ReadTemperature = temperature-three k
+three-asked k (SetWorkingVoltage v) = voltage-three k
+
 -- ---- the answers: 1, 3, 6 in that order, or the frame
 
 abbrev answer : Bool → Bool → Bool → Built → Built
@@ -117,9 +161,10 @@ no-frame false false true f h = refl
 no-frame false false false f h = absurd (h refl refl refl)
 
 module _ (k : Kind) (identifier : ℕ) (r : Report) (held : HeldReport r) where
-  report-is : buildReport k identifier r ≡ answer (ltb 0x1FFFFFFF identifier) (unlisted k r) (sixOf k r) (frameWith identifier (bodyOf (reportBytes k r)))
+  report-is : buildReport k identifier r ≡ answer (ltb 0x1FFFFFFF identifier) (threeOf k r) (sixOf k r) (frameWith identifier (bodyOf (reportBytes k r)))
   unfolding buildReport
-  report-is = decided (unlisted k r) (λ y. rw y refl) (λ y. rw (y, six-is k r held y) refl)
+  report-is =
+      decided (unlisted k r) (λ y. rw (y, sym (three-is k r) ∙ y) refl) (λ y. rw (y, sym (three-is k r) ∙ y, six-is k r held y) refl)
 
   pub report-built : ReportBuilt k identifier r
   report-built =
@@ -127,19 +172,23 @@ module _ (k : Kind) (identifier : ℕ) (r : Report) (held : HeldReport r) where
       let bs = reportBytes k r in
       let over = ltb 0x1FFFFFFF identifier in
       record {
-        refused = λ n. rw (report-is, told over (unlisted k r) (sixOf k r) identifier bs) (pick-exactly cs identifier n (map pos (take (length bs) (bodyOf bs .bytes))));
-        nothing = λ n h. ap (λ (b : Built). b .frame) report-is ∙ no-frame over (unlisted k r) (sixOf k r) (frameWith identifier (bodyOf bs)) (λ x y z. first-not-none n cs h (x, (y, (z, tt))));
+        refused = λ n. rw (report-is, told over (threeOf k r) (sixOf k r) identifier bs) (pick-exactly cs identifier n (map pos (take (length bs) (bodyOf bs .bytes))));
+        nothing = λ n h. ap (λ (b : Built). b .frame) report-is ∙ no-frame over (threeOf k r) (sixOf k r) (frameWith identifier (bodyOf bs)) (λ x y z. first-not-none n cs h (x, (y, (z, tt))));
         built = λ h. report-is ∙ rw (h .0, h .1 .0, h .1 .1 .0) refl;
       }
 
-pub request-built : (k : Kind) (identifier : ℕ) (r : Request) → RequestBuilt k identifier r
-unfolding buildRequest
-request-built k identifier r =
-    let cs = requestBuildConditions k identifier r in
-    let bs = requestBytes k r in
-    let over = ltb 0x1FFFFFFF identifier in
-    record {
-      refused = λ n. rw (told over (unlistedRequest k r) false identifier bs) (pick-exactly cs identifier n (map pos (take (length bs) (bodyOf bs .bytes))));
-      nothing = λ n h. no-frame over (unlistedRequest k r) false (frameWith identifier (bodyOf bs)) (λ x y z. first-not-none n cs h (x, (y, tt)));
-      built = λ h. rw (h .0, h .1 .0) refl;
-    }
+module _ (k : Kind) (identifier : ℕ) (r : Request) where
+  request-is : buildRequest k identifier r ≡ answer (ltb 0x1FFFFFFF identifier) (threeAsked k r) false (frameWith identifier (bodyOf (requestBytes k r)))
+  unfolding buildRequest
+  request-is = ap (λ (t : Bool). answer (ltb 0x1FFFFFFF identifier) t false (frameWith identifier (bodyOf (requestBytes k r)))) (three-asked k r)
+
+  pub request-built : RequestBuilt k identifier r
+  request-built =
+      let cs = requestBuildConditions k identifier r in
+      let bs = requestBytes k r in
+      let over = ltb 0x1FFFFFFF identifier in
+      record {
+        refused = λ n. rw (request-is, told over (threeAsked k r) false identifier bs) (pick-exactly cs identifier n (map pos (take (length bs) (bodyOf bs .bytes))));
+        nothing = λ n h. ap (λ (b : Built). b .frame) request-is ∙ no-frame over (threeAsked k r) false (frameWith identifier (bodyOf bs)) (λ x y z. first-not-none n cs h (x, (y, tt)));
+        built = λ h. request-is ∙ rw (h .0, h .1 .0) refl;
+      }

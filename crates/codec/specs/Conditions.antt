@@ -12,12 +12,13 @@ use Rattle.words.specs.Signed.{holds, holdsUnsigned}
 use Rattle.codec.specs.declared.frame.Frame.{Frame}
 use Rattle.codec.specs.declared.rows.Kind.{Kind}
 use Rattle.codec.specs.declared.report.Report.{Report}
+use Rattle.codec.specs.declared.report.Report.the-variants.{IsolationState, Resistances, Capacitances, PoleVoltages, BatteryVoltage, Errors, Word, Temperature, WorkingVoltage}
 use Rattle.codec.specs.declared.request.Request.{Request}
+use Rattle.codec.specs.declared.request.Request.the-variants.{ReadIsolationState, ReadResistances, ReadCapacitances, ReadVoltages, ReadBattery, ReadErrorFlags, ReadWord, ReadTemperature, SetWorkingVoltage}
 use Rattle.codec.specs.Frames.{overLimits, notExpected, muxOf}
 use Rattle.codec.specs.Table.{Field, Line, lineOf, valueIn}
-use Rattle.codec.specs.Answers.{Told, values, reportMux, reportValues}
-use Rattle.codec.specs.Building.{isSim100, unlisted}
-use Rattle.codec.specs.Requests.{unlistedRequest}
+use Rattle.codec.specs.Answers.{Told, values, reportMux, reportValues, requestMux}
+use Rattle.codec.specs.Building.{isSim100}
 
 -- ---- conditions in order
 
@@ -121,9 +122,38 @@ abbrev pub sixOf : Kind → Report → Bool
 sixOf k r =
     fiveOf k (reportMux r) (statusOf (reportValues r)) || not (allFit (reportFields (lineOf k (reportMux r))) (reportValues r))
 
+-- 3: "a multiplexer not listed for that device kind". As a word, a number is listed from 01 to 0B alone
+abbrev pub strayWord : Report → Bool
+strayWord (IsolationState e) = false
+strayWord (Resistances e) = false
+strayWord (Capacitances e) = false
+strayWord (PoleVoltages v) = false
+strayWord (BatteryVoltage b) = false
+strayWord (Errors e) = false
+strayWord (Word mux w) = ltb mux 0x01 || ltb 0x0B mux
+strayWord (Temperature z) = false
+strayWord (WorkingVoltage v) = false
+
+abbrev pub strayAsked : Request → Bool
+strayAsked ReadIsolationState = false
+strayAsked ReadResistances = false
+strayAsked ReadCapacitances = false
+strayAsked ReadVoltages = false
+strayAsked ReadBattery = false
+strayAsked ReadErrorFlags = false
+strayAsked (ReadWord mux) = ltb mux 0x01 || ltb 0x0B mux
+strayAsked ReadTemperature = false
+strayAsked (SetWorkingVoltage v) = false
+
+abbrev pub threeOf : Kind → Report → Bool
+threeOf k r = isNone (lineOf k (reportMux r)) || strayWord r
+
+abbrev pub threeAsked : Kind → Request → Bool
+threeAsked k r = isNone (lineOf k (requestMux r)) || strayAsked r
+
 -- "Building a frame: 1 (identifier), 3, 6." Every value that a request's type holds fits
 abbrev pub reportBuildConditions : Kind → ℕ → Report → List Condition
-reportBuildConditions k identifier r = (1 when ltb 0x1FFFFFFF identifier) ∷ (3 when unlisted k r) ∷ (6 when sixOf k r) ∷ []
+reportBuildConditions k identifier r = (1 when ltb 0x1FFFFFFF identifier) ∷ (3 when threeOf k r) ∷ (6 when sixOf k r) ∷ []
 
 abbrev pub requestBuildConditions : Kind → ℕ → Request → List Condition
-requestBuildConditions k identifier r = (1 when ltb 0x1FFFFFFF identifier) ∷ (3 when unlistedRequest k r) ∷ []
+requestBuildConditions k identifier r = (1 when ltb 0x1FFFFFFF identifier) ∷ (3 when threeAsked k r) ∷ []

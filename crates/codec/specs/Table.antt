@@ -1,15 +1,15 @@
 -- Document 01's report table, a line for each of its rows.
 --
---     Mux      Report, bytes from 1                                                   Length
---     E0       status, isolation Ohm/V (2-3), uncertainty (4), energy mJ (5-6), uncertainty (7)   8
---     E1       status, Rp kOhm, uncertainty, Rn, uncertainty, same places                8
---     E2       status, Cp nF, uncertainty, Cn, uncertainty                               8
---     E3       status, Vp V, uncertainty, Vn, uncertainty                                8
---     E4       status, Vb V, uncertainty, Vb max, uncertainty                            8
---     E5       status, error flags: SIM100 byte 2, SIM101 bytes 2-3                      8 / 4
---     01-0B    one 32-bit word (part name, version, serial)                              5
---     80       SIM101 only: temperature in thousandths of a degree, signed 32 bits       5
---     F0       SIM100 only: working voltage, request and report alike                    3
+--     Mux      Length   Report, bytes from 1
+--     E0       8        status, isolation Ohm/V (2-3), its uncertainty (4), energy mJ (5-6), its uncertainty (7)
+--     E1       8        status, Rp kOhm, uncertainty, Rn, uncertainty, same places
+--     E2       8        status, Cp nF, uncertainty, Cn, uncertainty
+--     E3       8        status, Vp V, uncertainty, Vn, uncertainty
+--     E4       8        status, Vb V, uncertainty, Vb max, uncertainty
+--     E5       8 / 4    status, error flags: SIM100 byte 2, SIM101 bytes 2-3
+--     01-0B    5        one 32-bit word (part name, version, serial)
+--     80       5        SIM101 only: temperature in thousandths of a degree, signed 32 bits
+--     F0       3        SIM100 only: working voltage, request and report alike
 use Prim.Native.Nat.{ℕ, zero, suc, _+_, _*_}
 use mathlib.Core.Bool.{Bool, true, false, cond, _&&_}
 use mathlib.Core.List.{List, [], _∷_, _++_}
