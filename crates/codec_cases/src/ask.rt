@@ -1,15 +1,8 @@
-// A record taken apart, and its question put to the codec.
+// A record of a cases file taken apart.
 ghost use mathlib.Core.Path.{_≡_};
-ghost use lib.Dec.{eqb};
-ghost use lib.ListN.{getD};
-ghost use Rattle.codec.specs.Table.{part, numberAt};
-ghost use Rattle.words.specs.Signed.{signedOf};
-use crate::show;
-use codec::build::build_report;
-use codec::build::build_request;
+ghost use Rattle.codec.specs.Table.{numberAt};
+ghost use Rattle.codec_cases.specs.Cases.{knownCase, kindAsked, frameAsked, estimatesAsked, voltagesAsked, batteryAsked, flagsAsked, reportAsked, requestAsked};
 use codec::frame::Frame;
-use codec::read::read_report;
-use codec::read::read_request;
 use codec::report::Battery;
 use codec::report::ErrorFlags;
 use codec::report::Estimates;
@@ -22,15 +15,32 @@ use words::twos::signed32;
 use words::word::word16;
 use words::word::word32;
 
+// Whether the record asks anything that docs/CASES.md lists.
+pub fn known(r: [u8; 20]) -> bool
+    ensures { λ x. ⌜ x ≡ knownCase r ⌝ }
+{
+    (r[1] < 2) & ((r[0] < 2) | (r[0] < 4) & (r[6] < 9))
+}
+
+pub fn kind(r: [u8; 20]) -> Kind
+    ensures { λ x. ⌜ x ≡ kindAsked r ⌝ }
+{
+    let n = r[1];
+    match n {
+        0 => Kind::Sim100,
+        _ => Kind::Sim101,
+    }
+}
+
 // Bytes 2 to 5: the expected identifier, or that of the frame to build.
-fn identifier(r: [u8; 20]) -> u32
+pub fn identifier(r: [u8; 20]) -> u32
     ensures { λ x. ⌜ x ≡ numberAt r 2 4 ⌝ }
 {
     word32(Order::Big, r[2], r[3], r[4], r[5])
 }
 
-fn frame(r: [u8; 20]) -> Frame
-    ensures { λ x. ⌜ x ≡ record { extended = eqb (getD r 6 0) 1; identifier = numberAt r 8 4; length = getD r 7 0; bytes = part r 12 8 } ⌝ }
+pub fn frame(r: [u8; 20]) -> Frame
+    ensures { λ x. ⌜ x ≡ frameAsked r ⌝ }
 {
     Frame {
         extended: r[6] == 1,
@@ -66,7 +76,7 @@ fn second16(r: [u8; 20]) -> u16
 }
 
 fn estimates(r: [u8; 20]) -> Estimates
-    ensures { λ x. ⌜ x ≡ record { status = getD r 7 0; first = numberAt r 10 2; «first_uncertainty» = getD r 12 0; second = numberAt r 15 2; «second_uncertainty» = getD r 17 0 } ⌝ }
+    ensures { λ x. ⌜ x ≡ estimatesAsked r ⌝ }
 {
     Estimates {
         status: r[7],
@@ -78,7 +88,7 @@ fn estimates(r: [u8; 20]) -> Estimates
 }
 
 fn voltages(r: [u8; 20]) -> Voltages
-    ensures { λ x. ⌜ x ≡ record { status = getD r 7 0; vp = signedOf 32 (numberAt r 8 4); «vp_uncertainty» = getD r 12 0; vn = signedOf 32 (numberAt r 13 4); «vn_uncertainty» = getD r 17 0 } ⌝ }
+    ensures { λ x. ⌜ x ≡ voltagesAsked r ⌝ }
 {
     Voltages {
         status: r[7],
@@ -90,7 +100,7 @@ fn voltages(r: [u8; 20]) -> Voltages
 }
 
 fn battery(r: [u8; 20]) -> Battery
-    ensures { λ x. ⌜ x ≡ record { status = getD r 7 0; vb = signedOf 32 (numberAt r 8 4); «vb_uncertainty» = getD r 12 0; «vb_max» = numberAt r 15 2; «vb_max_uncertainty» = getD r 17 0 } ⌝ }
+    ensures { λ x. ⌜ x ≡ batteryAsked r ⌝ }
 {
     Battery {
         status: r[7],
@@ -102,7 +112,7 @@ fn battery(r: [u8; 20]) -> Battery
 }
 
 fn flags(r: [u8; 20]) -> ErrorFlags
-    ensures { λ x. ⌜ x ≡ record { status = getD r 7 0; flags = numberAt r 10 2 } ⌝ }
+    ensures { λ x. ⌜ x ≡ flagsAsked r ⌝ }
 {
     ErrorFlags {
         status: r[7],
@@ -110,8 +120,12 @@ fn flags(r: [u8; 20]) -> ErrorFlags
     }
 }
 
-fn build_a_report(kind: Kind, r: [u8; 20]) -> bool {
-    let report = match r[6] {
+// The report to build.
+pub fn report(r: [u8; 20]) -> Report
+    ensures { λ x. ⌜ x ≡ reportAsked r ⌝ }
+{
+    let which = r[6];
+    match which {
         0 => Report::IsolationState(estimates(r)),
         1 => Report::Resistances(estimates(r)),
         2 => Report::Capacitances(estimates(r)),
@@ -120,15 +134,16 @@ fn build_a_report(kind: Kind, r: [u8; 20]) -> bool {
         5 => Report::Errors(flags(r)),
         6 => Report::Word(r[7], first32(r)),
         7 => Report::Temperature(signed32(first32(r))),
-        8 => Report::WorkingVoltage(first16(r)),
-        _ => return false,
-    };
-    show::built(build_report(kind, identifier(r), report));
-    true
+        _ => Report::WorkingVoltage(first16(r)),
+    }
 }
 
-fn build_a_request(kind: Kind, r: [u8; 20]) -> bool {
-    let request = match r[6] {
+// The request to build.
+pub fn request(r: [u8; 20]) -> Request
+    ensures { λ x. ⌜ x ≡ requestAsked r ⌝ }
+{
+    let which = r[6];
+    match which {
         0 => Request::ReadIsolationState,
         1 => Request::ReadResistances,
         2 => Request::ReadCapacitances,
@@ -137,34 +152,6 @@ fn build_a_request(kind: Kind, r: [u8; 20]) -> bool {
         5 => Request::ReadErrorFlags,
         6 => Request::ReadWord(r[7]),
         7 => Request::ReadTemperature,
-        8 => Request::SetWorkingVoltage(first16(r)),
-        _ => return false,
-    };
-    show::built(build_request(kind, identifier(r), request));
-    true
-}
-
-fn answer_for(kind: Kind, r: [u8; 20]) -> bool {
-    match r[0] {
-        0 => {
-            show::report(read_report(kind, identifier(r), frame(r)));
-            true
-        }
-        1 => {
-            show::request(read_request(kind, identifier(r), frame(r)));
-            true
-        }
-        2 => build_a_report(kind, r),
-        3 => build_a_request(kind, r),
-        _ => false,
-    }
-}
-
-// False where the record asks nothing known.
-pub fn answer(r: [u8; 20]) -> bool {
-    match r[1] {
-        0 => answer_for(Kind::Sim100, r),
-        1 => answer_for(Kind::Sim101, r),
-        _ => false,
+        _ => Request::SetWorkingVoltage(first16(r)),
     }
 }

@@ -2,14 +2,34 @@
 mod ask;
 mod show;
 
-// A record is read and answered: false at the end of the input, and at a record that asks nothing known.
+use codec::build::build_report;
+use codec::build::build_request;
+use codec::read::read_report;
+use codec::read::read_request;
+
+// The question of a record put to the codec, and its answer shown.
+fn answer(r: [u8; 20]) {
+    let what = r[0];
+    match what {
+        0 => show::report(read_report(ask::kind(r), ask::identifier(r), ask::frame(r))),
+        1 => show::request(read_request(ask::kind(r), ask::identifier(r), ask::frame(r))),
+        2 => show::built(build_report(ask::kind(r), ask::identifier(r), ask::report(r))),
+        _ => show::built(build_request(ask::kind(r), ask::identifier(r), ask::request(r))),
+    }
+}
+
+// A record is read and answered. False at the end of the input, and at a record that asks nothing known.
 fn answer_next() -> bool {
     let mut r = [0u8; 20];
     let n = io::read_full(0, &mut r);
     if n < 20 {
         return false;
     }
-    ask::answer(r)
+    if !ask::known(r) {
+        return false;
+    }
+    answer(r);
+    true
 }
 
 fn main() {

@@ -1,4 +1,7 @@
 // Answers as lines of text.
+ghost use mathlib.Core.Path.{_≡_};
+ghost use Prim.Native.Nat.{_%_};
+ghost use Rattle.codec_cases.specs.Cases.{hexDigit};
 use codec::frame::Answer;
 use codec::frame::Built;
 use codec::frame::Frame;
@@ -19,28 +22,13 @@ fn text(s: &[u8]) {
     io::write_all(1, s);
 }
 
-const DIGITS: [u8; 16] = [
-    48,
-    49,
-    50,
-    51,
-    52,
-    53,
-    54,
-    55,
-    56,
-    57,
-    65,
-    66,
-    67,
-    68,
-    69,
-    70,
-];
-
 // The last hexadecimal digit of a number.
-fn hex_digit(n: u8) -> u8 {
-    DIGITS[(n % 16) as usize]
+fn hex_digit(n: u8) -> u8
+    ensures { λ r. ⌜ r ≡ hexDigit (n % 16) ⌝ }
+{
+    let d = n % 16;
+    let small = d < 10;
+    if small { 48 + d } else { 55 + d }
 }
 
 fn hex(b: u8) {
