@@ -21,7 +21,7 @@ use Rattle.codec.specs.declared.report.Report.the-variants.{IsolationSta
 use Rattle.codec.specs.declared.request.Request.{Request}
 use Rattle.codec.specs.declared.request.Request.the-variants.{ReadIsolationState, ReadResistances, ReadCapacitances, ReadVoltages, ReadBattery, ReadErrorFlags, ReadWord, ReadTemperature, SetWorkingVoltage}
 use Rattle.refusal.specs.declared.Refusal.the-variants.{OverLimits, NotListed, DoesNotFit}
-use Rattle.codec.specs.Frames.{bodyOf, frameWith, refused, blank}
+use Rattle.codec.specs.Frames.{bodyOf, frameOf, frameWith, refused, blank}
 use Rattle.codec.specs.Table.{Field, lineOf, unsigned, estimatesOf, voltageAt, flagsOf}
 use Rattle.codec.specs.Answers.{estimates, toldBuilt}
 use Rattle.codec.specs.Reports.{badStatus}
@@ -29,7 +29,7 @@ use Rattle.codec.specs.Building.{isSim100, unlisted, voltageMisfit, flag
 use Rattle.codec.specs.Requests.{unlistedRequest, requestBytes, buildRequest}
 use Rattle.codec.specs.Conditions.{_when_, isNone, threeOf, threeAsked, fits, allFit, fiveOf, sixOf, reportBuildConditions, requestBuildConditions}
 use Rattle.codec.specs.Held.{HeldEstimates, HeldReport}
-use Rattle.codec.specs.Promise.{ReportBuilt, RequestBuilt}
+use Rattle.codec.specs.Promise.{Builds}
 use Rattle.codec.proofs.Table.{word-line}
 use Rattle.codec.proofs.Conditions.{pick, pick-exactly, first-not-none}
 use Rattle.codec.proofs.Reading.{five-in, five-below}
@@ -160,35 +160,30 @@ no-frame false true c f h = refl
 no-frame false false true f h = refl
 no-frame false false false f h = absurd (h refl refl refl)
 
-module _ (k : Kind) (identifier : ℕ) (r : Report) (held : HeldReport r) where
-  report-is : buildReport k identifier r ≡ answer (ltb 0x1FFFFFFF identifier) (threeOf k r) (sixOf k r) (frameWith identifier (bodyOf (reportBytes k r)))
-  unfolding buildReport
-  report-is =
-      decided (unlisted k r) (λ y. rw (y, sym (three-is k r) ∙ y) refl) (λ y. rw (y, sym (three-is k r) ∙ y, six-is k r held y) refl)
+builds : (b : Built) (one three six : Bool) (i : ℕ) (bs : List ℕ) → b ≡ answer one three six (frameWith i (bodyOf bs)) → Builds b ((1 when one) ∷ (3 when three) ∷ (6 when six) ∷ []) (frameOf i (bodyOf bs))
+builds b one three six i bs e =
+    let cs = (1 when one) ∷ (3 when three) ∷ (6 when six) ∷ [] in
+    record {
+      refused = λ n. rw (e, told one three six i bs) (pick-exactly cs i n (map pos (take (length bs) (bodyOf bs .bytes))));
+      nothing = λ n h. ap (λ (x : Built). x .frame) e ∙ no-frame one three six (frameWith i (bodyOf bs)) (λ x y z. first-not-none n cs h (x, (y, (z, tt))));
+      built = λ h. e ∙ rw (h .0, h .1 .0, h .1 .1 .0) refl;
+    }
 
-  pub report-built : ReportBuilt k identifier r
-  report-built =
-      let cs = reportBuildConditions k identifier r in
-      let bs = reportBytes k r in
-      let over = ltb 0x1FFFFFFF identifier in
-      record {
-        refused = λ n. rw (report-is, told over (threeOf k r) (sixOf k r) identifier bs) (pick-exactly cs identifier n (map pos (take (length bs) (bodyOf bs .bytes))));
-        nothing = λ n h. ap (λ (b : Built). b .frame) report-is ∙ no-frame over (threeOf k r) (sixOf k r) (frameWith identifier (bodyOf bs)) (λ x y z. first-not-none n cs h (x, (y, (z, tt))));
-        built = λ h. report-is ∙ rw (h .0, h .1 .0, h .1 .1 .0) refl;
-      }
+-- 6 is looked at only where 3 is not due
+report-is : (k : Kind) (identifier : ℕ) (r : Report) → HeldReport r → buildReport k identifier r ≡ answer (ltb 0x1FFFFFFF identifier) (threeOf k r) (sixOf k r) (frameWith identifier (bodyOf (reportBytes k r)))
+unfolding buildReport
+report-is k identifier r held =
+    decided (unlisted k r) (λ y. rw (y, sym (three-is k r) ∙ y) refl) (λ y. rw (y, sym (three-is k r) ∙ y, six-is k r held y) refl)
 
-module _ (k : Kind) (identifier : ℕ) (r : Request) where
-  request-is : buildRequest k identifier r ≡ answer (ltb 0x1FFFFFFF identifier) (threeAsked k r) false (frameWith identifier (bodyOf (requestBytes k r)))
-  unfolding buildRequest
-  request-is = ap (λ (t : Bool). answer (ltb 0x1FFFFFFF identifier) t false (frameWith identifier (bodyOf (requestBytes k r)))) (three-asked k r)
+pub report-built : (k : Kind) (identifier : ℕ) (r : Report) → HeldReport r → Builds (buildReport k identifier r) (reportBuildConditions k identifier r) (frameOf identifier (bodyOf (reportBytes k r)))
+report-built k identifier r held =
+    builds (buildReport k identifier r) (ltb 0x1FFFFFFF identifier) (threeOf k r) (sixOf k r) identifier (reportBytes k r) (report-is k identifier r held)
 
-  pub request-built : RequestBuilt k identifier r
-  request-built =
-      let cs = requestBuildConditions k identifier r in
-      let bs = requestBytes k r in
-      let over = ltb 0x1FFFFFFF identifier in
-      record {
-        refused = λ n. rw (request-is, told over (threeAsked k r) false identifier bs) (pick-exactly cs identifier n (map pos (take (length bs) (bodyOf bs .bytes))));
-        nothing = λ n h. ap (λ (b : Built). b .frame) request-is ∙ no-frame over (threeAsked k r) false (frameWith identifier (bodyOf bs)) (λ x y z. first-not-none n cs h (x, (y, tt)));
-        built = λ h. request-is ∙ rw (h .0, h .1 .0) refl;
-      }
+request-is : (k : Kind) (identifier : ℕ) (r : Request) → buildRequest k identifier r ≡ answer (ltb 0x1FFFFFFF identifier) (threeAsked k r) false (frameWith identifier (bodyOf (requestBytes k r)))
+unfolding buildRequest
+request-is k identifier r =
+    ap (λ (t : Bool). answer (ltb 0x1FFFFFFF identifier) t false (frameWith identifier (bodyOf (requestBytes k r)))) (three-asked k r)
+
+pub request-built : (k : Kind) (identifier : ℕ) (r : Request) → Builds (buildRequest k identifier r) (requestBuildConditions k identifier r) (frameOf identifier (bodyOf (requestBytes k r)))
+request-built k identifier r =
+    builds (buildRequest k identifier r) (ltb 0x1FFFFFFF identifier) (threeAsked k r) false identifier (requestBytes k r) (request-is k identifier r)

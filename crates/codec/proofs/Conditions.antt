@@ -8,6 +8,7 @@ use native.Mathlib.Omega.{arith}
 use lib.IntN.{ℤ}
 use Rattle.words.proofs.Tests.{decided, false-true}
 use Rattle.codec.specs.Answers.{Told, refusal, values}
+use Rattle.codec.specs.Promise.{Answers}
 use Rattle.codec.specs.Conditions.{Condition, First, None}
 
 abbrev pub pick : List Condition → Told → Told
@@ -39,3 +40,8 @@ pub first-not-none : (n : ℕ) (cs : List Condition) → First n cs → None cs 
 first-not-none n [] h l = h
 first-not-none n (c ∷ cs) (inl h) l = false-true (sym (h .0) ∙ l .0)
 first-not-none n (c ∷ cs) (inr h) l = first-not-none n cs (h .1) (l .1)
+
+-- what is picked from the conditions is answered or refused as they say
+pub answers : (told : Told) (cs : List Condition) (m : ℕ) (vs : List ℤ) → told ≡ pick cs (values m vs) → Answers told cs (values m vs)
+answers told cs m vs e =
+    record { refused = λ n. rw e (pick-exactly cs m n vs); answered = λ h. e ∙ pick-none cs (values m vs) h }

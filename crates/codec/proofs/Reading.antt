@@ -1,6 +1,6 @@
 -- Reading: what is read is what the table says, and what is refused is refused by the first condition that holds. Assumes nothing.
 use Prim.Native.Nat.{ℕ, _<_, _≤_}
-use mathlib.Core.Path.{_≡_, refl, ap, sym, _∙_}
+use mathlib.Core.Path.{_≡_, refl, ap, sym}
 use mathlib.Core.Bool.{true, false, not}
 use mathlib.Core.List.{List, [], _∷_, map}
 use mathlib.Core.Option.{Option, some}
@@ -26,9 +26,9 @@ use Rattle.codec.specs.Answers.{Told, refusal, values, toldReport, toldR
 use Rattle.codec.specs.Reports.{voltageOf, flagsIn, badStatus, hasStatus, wrongStatus, reportOf, reportIn, readReport}
 use Rattle.codec.specs.Requests.{requestOf, requestIn, readRequest}
 use Rattle.codec.specs.Conditions.{Condition, _when_, isNone, notListed, reportLength, requestLengthOf, reportFields, requestFields, fiveOf, reportConditions, requestConditions, tableReport, tableRequest}
-use Rattle.codec.specs.Promise.{ReportRead, RequestRead}
+use Rattle.codec.specs.Promise.{Answers}
 use Rattle.codec.proofs.Table.{Each, by-line, just}
-use Rattle.codec.proofs.Conditions.{pick, pick-none, pick-exactly}
+use Rattle.codec.proofs.Conditions.{pick, answers}
 
 -- ---- fields
 
@@ -140,13 +140,10 @@ report-told k expected f =
     (λ why. refl)
     (by-line (Says k f) k (muxOf f) (λ e. refl) (lines k f) refl)
 
-pub report-read : (k : Kind) (expected : ℕ) (f : Frame) → ReportRead k expected f
+pub report-read : (k : Kind) (expected : ℕ) (f : Frame) → Answers (toldReport (readReport k expected f)) (reportConditions k expected f) (tableReport k f)
 report-read k expected f =
-    let cs = reportConditions k expected f in
-    record {
-      refused = λ n. rw (report-told k expected f) (pick-exactly cs (muxOf f) n (map (valueIn (f .bytes)) (reportFields (lineOf k (muxOf f)))));
-      answered = λ h. report-told k expected f ∙ pick-none cs (tableReport k f) h;
-    }
+    answers (toldReport (readReport k expected f)) (reportConditions k expected f) (muxOf f) (map (valueIn (f .bytes)) (reportFields (lineOf k (muxOf f))))
+    (report-told k expected f)
 
 -- ---- requests, line by line
 
@@ -198,10 +195,7 @@ request-told k expected f =
     (λ why. refl)
     (by-line (Asks f) k (muxOf f) (λ e. refl) (asked-lines f k) refl)
 
-pub request-read : (k : Kind) (expected : ℕ) (f : Frame) → RequestRead k expected f
+pub request-read : (k : Kind) (expected : ℕ) (f : Frame) → Answers (toldRequest (readRequest k expected f)) (requestConditions k expected f) (tableRequest k f)
 request-read k expected f =
-    let cs = requestConditions k expected f in
-    record {
-      refused = λ n. rw (request-told k expected f) (pick-exactly cs (muxOf f) n (map (valueIn (f .bytes)) (requestFields (lineOf k (muxOf f)))));
-      answered = λ h. request-told k expected f ∙ pick-none cs (tableRequest k f) h;
-    }
+    answers (toldRequest (readRequest k expected f)) (requestConditions k expected f) (muxOf f) (map (valueIn (f .bytes)) (requestFields (lineOf k (muxOf f))))
+    (request-told k expected f)

@@ -151,9 +151,9 @@ threeOf k r = isNone (lineOf k (reportMux r)) || strayWord r
 abbrev pub threeAsked : Kind → Request → Bool
 threeAsked k r = isNone (lineOf k (requestMux r)) || strayAsked r
 
--- "Building a frame: 1 (identifier), 3, 6." Every value that a request's type holds fits
+-- "Building a frame: 1 (identifier), 3, 6." Every value that a request's type holds fits: 6 is never due
 abbrev pub reportBuildConditions : Kind → ℕ → Report → List Condition
 reportBuildConditions k identifier r = (1 when ltb 0x1FFFFFFF identifier) ∷ (3 when threeOf k r) ∷ (6 when sixOf k r) ∷ []
 
 abbrev pub requestBuildConditions : Kind → ℕ → Request → List Condition
-requestBuildConditions k identifier r = (1 when ltb 0x1FFFFFFF identifier) ∷ (3 when threeAsked k r) ∷ []
+requestBuildConditions k identifier r = (1 when ltb 0x1FFFFFFF identifier) ∷ (3 when threeAsked k r) ∷ (6 when false) ∷ []

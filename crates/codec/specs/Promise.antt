@@ -2,7 +2,7 @@
 use Prim.Native.Nat.{ℕ, _-_}
 use mathlib.Core.Path.{_≡_}
 use mathlib.Core.Bool.{cond, _&&_}
-use mathlib.Core.List.{_++_}
+use mathlib.Core.List.{List, _++_}
 use mathlib.Core.Logic.{_↔_}
 use lib.Dec.{eqb}
 use lib.ListN.{take, replicate}
@@ -14,45 +14,31 @@ use Rattle.codec.specs.declared.report.Report.{Report}
 use Rattle.codec.specs.declared.report.ReportReading.the-variants.{Read}
 use Rattle.codec.specs.declared.request.Request.{Request}
 use Rattle.codec.specs.declared.request.RequestReading.the-variants.{Read as Asked}
-use Rattle.codec.specs.Frames.{muxOf, bodyOf, frameWith, blank}
-use Rattle.codec.specs.Answers.{refusal, toldReport, toldRequest, toldBuilt}
-use Rattle.codec.specs.Conditions.{First, None, reportConditions, requestConditions, tableReport, tableRequest, reportBuildConditions, requestBuildConditions}
+use Rattle.codec.specs.Frames.{muxOf, bodyOf, frameOf, blank}
+use Rattle.codec.specs.Answers.{Told, refusal, toldReport, toldRequest, toldBuilt}
+use Rattle.codec.specs.Conditions.{Condition, First, None, reportConditions, requestConditions, tableReport, tableRequest, reportBuildConditions, requestBuildConditions}
 use Rattle.codec.specs.Held.{HeldFrame, HeldReport, HeldRequest}
 use Rattle.codec.specs.Reports.{readReport}
 use Rattle.codec.specs.Building.{isSim100, reportBytes, buildReport}
 use Rattle.codec.specs.Requests.{readRequest, requestBytes, buildRequest}
 
--- ---- reading
+-- ---- answered or refused
 
--- A report is refused by n exactly when the condition of n holds and none before it. Where none holds it reads as the table says.
-pub record ReportRead (k : Kind) (expected : ℕ) (f : Frame) : Type 0 where
-  pub refused : (n : ℕ) → toldReport (readReport k expected f) ≡ refusal n ↔ First n (reportConditions k expected f)
-  pub answered : None (reportConditions k expected f) → toldReport (readReport k expected f) ≡ tableReport k f
-
--- The same of a request.
-pub record RequestRead (k : Kind) (expected : ℕ) (f : Frame) : Type 0 where
-  pub refused : (n : ℕ) → toldRequest (readRequest k expected f) ≡ refusal n ↔ First n (requestConditions k expected f)
-  pub answered : None (requestConditions k expected f) → toldRequest (readRequest k expected f) ≡ tableRequest k f
-
--- ---- building
-
--- A report to be built is refused by n exactly when the condition of n holds and none before it, and the frame is then blank.
--- Where none holds, it is built.
-pub record ReportBuilt (k : Kind) (identifier : ℕ) (r : Report) : Type 0 where
-  pub refused : (n : ℕ) → toldBuilt (buildReport k identifier r) ≡ refusal n ↔ First n (reportBuildConditions k identifier r)
-  pub nothing : (n : ℕ) → First n (reportBuildConditions k identifier r) → buildReport k identifier r .frame ≡ blank
-  pub built : None (reportBuildConditions k identifier r) → buildReport k identifier r ≡ frameWith identifier (bodyOf (reportBytes k r))
-
--- The same of a request.
-pub record RequestBuilt (k : Kind) (identifier : ℕ) (r : Request) : Type 0 where
-  pub refused : (n : ℕ) → toldBuilt (buildRequest k identifier r) ≡ refusal n ↔ First n (requestBuildConditions k identifier r)
-  pub nothing : (n : ℕ) → First n (requestBuildConditions k identifier r) → buildRequest k identifier r .frame ≡ blank
-  pub built : None (requestBuildConditions k identifier r) → buildRequest k identifier r ≡ frameWith identifier (bodyOf (requestBytes k r))
-
--- ---- there and back
+-- What is told is refusal n exactly when the condition of n holds and none before it; where none holds it is the good answer.
+pub record Answers (told : Told) (cs : List Condition) (good : Told) : Type 0 where
+  pub refused : (n : ℕ) → told ≡ refusal n ↔ First n cs
+  pub answered : None cs → told ≡ good
 
 abbrev pub accepted : Frame → Built
 accepted f = record { answer = Accepted; frame = f }
+
+-- The same of a frame to be built: where a condition holds the frame is blank, and where none holds it is this one.
+pub record Builds (b : Built) (cs : List Condition) (f : Frame) : Type 0 where
+  pub refused : (n : ℕ) → toldBuilt b ≡ refusal n ↔ First n cs
+  pub nothing : (n : ℕ) → First n cs → b .frame ≡ blank
+  pub built : None cs → b ≡ accepted f
+
+-- ---- there and back
 
 -- "Built frames read back as the same values."
 abbrev pub ReportReadsBack : Type 0
@@ -76,10 +62,10 @@ RequestBuildsBack = (k : Kind) (expected : ℕ) (f : Frame) (r : Request) → He
 -- ---- the promise
 
 pub record Promise : Type 0 where
-  pub reports-read : (k : Kind) (expected : ℕ) (f : Frame) → ReportRead k expected f
-  pub requests-read : (k : Kind) (expected : ℕ) (f : Frame) → RequestRead k expected f
-  pub reports-built : (k : Kind) (identifier : ℕ) (r : Report) → HeldReport r → ReportBuilt k identifier r
-  pub requests-built : (k : Kind) (identifier : ℕ) (r : Request) → RequestBuilt k identifier r
+  pub reports-read : (k : Kind) (expected : ℕ) (f : Frame) → Answers (toldReport (readReport k expected f)) (reportConditions k expected f) (tableReport k f)
+  pub requests-read : (k : Kind) (expected : ℕ) (f : Frame) → Answers (toldRequest (readRequest k expected f)) (requestConditions k expected f) (tableRequest k f)
+  pub reports-built : (k : Kind) (identifier : ℕ) (r : Report) → HeldReport r → Builds (buildReport k identifier r) (reportBuildConditions k identifier r) (frameOf identifier (bodyOf (reportBytes k r)))
+  pub requests-built : (k : Kind) (identifier : ℕ) (r : Request) → Builds (buildRequest k identifier r) (requestBuildConditions k identifier r) (frameOf identifier (bodyOf (requestBytes k r)))
   pub reports-read-back : ReportReadsBack
   pub requests-read-back : RequestReadsBack
   pub reports-build-back : ReportBuildsBack

@@ -16,7 +16,7 @@ use mathlib.Core.List.{List, [], _∷_, _++_}
 use mathlib.Core.Option.{Option, none, some}
 use lib.Dec.{leb, eqb}
 use lib.IntN.{ℤ, pos}
-use lib.ListN.{getD}
+use lib.ListN.{getD, take}
 use Rattle.words.specs.declared.Order.the-variants.{Big}
 use Rattle.words.specs.Words.{wordOf}
 use Rattle.words.specs.Signed.{signedOf}
@@ -136,11 +136,13 @@ asRow (some l) = Listed (l .row) (l .report) (l .request)
 abbrev pub rowOf : Kind → ℕ → Listing
 rowOf k mux = asRow (lineOf k mux)
 
--- the row of one of E0 to E5
+-- the row of one of E0 to E5, which are the first six lines of either kind
+abbrev pub measuredBy : Option Line → Row
+measuredBy none = MuxE5
+measuredBy (some l) = l .row
+
 abbrev pub measurementRow : ℕ → Row
-measurementRow mux =
-    cond (eqb mux 0xE0) MuxE0
-    (cond (eqb mux 0xE1) MuxE1 (cond (eqb mux 0xE2) MuxE2 (cond (eqb mux 0xE3) MuxE3 (cond (eqb mux 0xE4) MuxE4 MuxE5))))
+measurementRow mux = measuredBy (lineIn (take 6 (common Sim100)) mux)
 
 -- ---- the row of a frame: 1, 2, 3 in that order, and 3 also for length 0
 

@@ -1,5 +1,9 @@
--- `codec::rows::measurement_row` meets its contract: each arm is a case of the definition. Assumes nothing.
-use borrow.Author.Tests.{ne-eqb}
+-- `codec::rows::measurement_row` meets its contract: each arm is a line of the table. Assumes nothing.
+use mathlib.Core.Path.{refl}
+use mathlib.Core.Bool.{_&&_}
+use lib.Dec.{leb}
+use Rattle.words.proofs.Tests.{decided}
+use Rattle.codec.proofs.Table.{apart}
 use Rattle.codec.proofs.rows.measurement_row.Statement.{statement}
 use Rattle.codec.proofs.rows.measurement_row.Tie as tie
 
@@ -20,8 +24,10 @@ returns-5 c = rw (c .match .keys5)
 
 returns-6 : tie.Need-returns-6
 returns-6 c =
+    let m = c .before .args .mux in
     let other = c .match .rest in
-    rw (ne-eqb _ _ (other .0 .0 .0 .0 .1), ne-eqb _ _ (other .0 .0 .0 .1), ne-eqb _ _ (other .0 .0 .1), ne-eqb _ _ (other .0 .1), ne-eqb _ _ (other .1))
+    rw (apart 0xE0 m (other .0 .0 .0 .0 .1), apart 0xE1 m (other .0 .0 .0 .1), apart 0xE2 m (other .0 .0 .1), apart 0xE3 m (other .0 .1), apart 0xE4 m (other .1))
+    (decided (leb 0xE5 m && leb m 0xE5) (λ t. rw t refl) (λ t. rw t refl))
 
 pub measurement-row-spec : {M : Type 1} → statement M
 measurement-row-spec =
