@@ -1,6 +1,6 @@
 //! The cases file: records of 20 bytes, one question each, and the text line
 //! that answers a question. The quoted sentences are those of
-//! docs/CASES.md. "Numbers of several bytes are most significant byte first."
+//! docs/CODEC_CASES.md. "Numbers of several bytes are most significant byte first."
 
 use crate::codec::{self, Frame, Kind, Message, What, Which, ALL_WHICH};
 use std::io::{self, Write};

@@ -1,4 +1,4 @@
--- The records of docs/CASES.md: 20 bytes, one question each.
+-- The records of docs/CODEC_CASES.md: 20 bytes, one question each.
 use Prim.Native.Nat.{ℕ, _+_}
 use mathlib.Core.Bool.{Bool, cond, _&&_, _||_}
 use mathlib.Core.List.{List}

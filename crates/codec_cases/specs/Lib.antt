@@ -1,2 +1,2 @@
--- What the cases program speaks of: the records of docs/CASES.md.
+-- What the cases program speaks of: the records of docs/CODEC_CASES.md.
 pub mod Cases

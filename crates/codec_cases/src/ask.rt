@@ -15,7 +15,7 @@ use words::twos::signed32;
 use words::word::word16;
 use words::word::word32;
 
-// Whether the record asks anything that docs/CASES.md lists.
+// Whether the record asks anything that docs/CODEC_CASES.md lists.
 pub fn known(r: [u8; 20]) -> bool
     ensures { λ x. ⌜ x ≡ knownCase r ⌝ }
 {

@@ -1,4 +1,4 @@
-// Answers the questions of a cases file on standard input, a line for each: docs/CASES.md has both formats.
+// Answers the questions of a cases file on standard input, a line for each: docs/CODEC_CASES.md has both formats.
 mod ask;
 mod show;
 

@@ -1,0 +1,10 @@
+-- `monitor::unit::reset` meets its contract: a start. Assumes nothing.
+use borrow.Author.Needs.{needs}
+use Rattle.monitor.proofs.unit.reset.Statement.{statement}
+use Rattle.monitor.proofs.unit.reset.Tie as tie
+
+returns : tie.Need-returns
+returns c = rw (c .before .start-again .ensures, c .no-reply .ensures)
+
+pub reset-spec : {M : Type 1} → statement M
+reset-spec = tie.close (tie.spec (λ c κs. search needs) (λ c κs. search needs) returns)

@@ -1,0 +1,15 @@
+-- `monitor::unit::unlock` meets its contract: by whether the window has passed. Assumes nothing.
+use mathlib.Core.Path.{sym, _∙_}
+use borrow.Author.Needs.{needs}
+use Rattle.monitor.proofs.unit.unlock.Statement.{statement}
+use Rattle.monitor.proofs.unit.unlock.Tie as tie
+
+returns : tie.Need-returns
+returns c = rw (sym (c .before .before .before .past-limit .ensures) ∙ c .before .before .if1 .taken, c .before .with-phase .ensures, c .nak-reply .ensures)
+
+returns-2 : tie.Need-returns-2
+returns-2 c = rw (sym (c .before .before .before .before .past-limit .ensures) ∙ c .before .before .before .if1 .left, c .before .with-phase2 .ensures, c .challenge-reply .ensures)
+
+pub unlock-spec : {M : Type 1} → statement M
+unlock-spec =
+    tie.close (tie.spec (λ c κs. search needs) (λ c κs. search needs) (λ c κs. search needs) returns (λ c κs. search needs) (λ c κs. search needs) returns-2)

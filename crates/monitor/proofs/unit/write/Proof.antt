@@ -1,0 +1,15 @@
+-- `monitor::unit::write` meets its contract: by whether the value is legal. Assumes nothing.
+use mathlib.Core.Path.{sym, _∙_}
+use borrow.Author.Needs.{needs}
+use Rattle.monitor.proofs.unit.write.Statement.{statement}
+use Rattle.monitor.proofs.unit.write.Tie as tie
+
+returns : tie.Need-returns
+returns c = rw (sym (c .before .before .before .before .is-legal .ensures) ∙ c .before .before .before .if1 .taken, c .go-on .ensures, c .before .before .with-value .ensures, c .before .ack-reply .ensures)
+
+returns-2 : tie.Need-returns-2
+returns-2 c = rw (sym (c .before .before .before .is-legal .ensures) ∙ c .before .before .if1 .left, c .go-on2 .ensures, c .before .nak-reply .ensures)
+
+pub write-spec : {M : Type 1} → statement M
+write-spec =
+    tie.close (tie.spec (λ c κs. search needs) (λ c κs. search needs) (λ c κs. search needs) (λ c κs. search needs) returns (λ c κs. search needs) (λ c κs. search needs) returns-2)

@@ -1,0 +1,152 @@
+-- The rules of document 01's "The bench monitor", one by one. A rule takes the monitor as it is and gives it as it is after, with
+-- the reply. Each is defined for every monitor there is.
+use Prim.Native.Nat.{ℕ}
+use mathlib.Core.Bool.{Bool, true, false, not, cond, _&&_}
+use mathlib.Core.List.{List}
+use lib.Dec.{eqb}
+use Rattle.codec.specs.declared.frame.Frame.{Frame}
+use Rattle.monitor.specs.declared.time.Stamp.{Stamp}
+use Rattle.monitor.specs.declared.time.Ticks.{Ticks}
+use Rattle.monitor.specs.declared.setting.Setting.{Setting}
+use Rattle.monitor.specs.declared.setting.Settings.{Settings}
+use Rattle.monitor.specs.declared.message.Message.{Message}
+use Rattle.monitor.specs.declared.message.Message.the-variants.{Other, Unlock, Commit, Answer, SerialRequest, Read, Write}
+use Rattle.monitor.specs.declared.message.Reply.{Reply}
+use Rattle.monitor.specs.declared.unit.Pending.{Pending}
+use Rattle.monitor.specs.declared.unit.Pending.the-variants.{Nothing, Since}
+use Rattle.monitor.specs.declared.unit.Session.{Session}
+use Rattle.monitor.specs.declared.unit.Phase.{Phase}
+use Rattle.monitor.specs.declared.unit.Phase.the-variants.{Outside, InSession}
+use Rattle.monitor.specs.declared.unit.Monitor.{Monitor}
+use Rattle.monitor.specs.declared.unit.Turn.{Turn}
+use Rattle.monitor.specs.Times.{later, pastLimit, ticksBetween}
+use Rattle.monitor.specs.Settings.{legal, valueOf, withValue}
+use Rattle.monitor.specs.Messages.{message, isRight, quiet, ack, nak, challenged, shown, serialReport}
+
+abbrev pub turn : Monitor → Reply → Turn
+turn m reply = record { monitor = m; reply = reply }
+
+abbrev pub inPhase : Phase → Monitor → Monitor
+inPhase phase m = record { serial = m .serial; rating = m .rating; stored = m .stored; start = m .start; phase = phase }
+
+-- "Every reply is on the transmit identifier stored before the event."
+abbrev pub transmitId : Monitor → ℕ
+transmitId m = m .stored .transmit
+
+-- ---- starts
+
+-- "Every start, power-on's too, leaves it locked, with no draft and nothing pending."
+abbrev pub startedWith : List ℕ → ℕ → Settings → Stamp → Monitor
+startedWith serial rating stored at = record { serial = serial; rating = rating; stored = stored; start = at; phase = Outside Nothing }
+
+-- the same unit starts, with these settings stored
+abbrev pub started : Stamp → Settings → Monitor → Monitor
+started at stored m = startedWith (m .serial) (m .rating) stored at
+
+-- ---- silence
+
+-- "In a session, if the next event's stamp is more than 2,000 ms after the last heard message, the monitor has already started again
+-- at that message's stamp plus 2,000, draft dropped"
+abbrev pub wokenBy : Phase → Stamp → Monitor → Monitor
+wokenBy (Outside pending) at m = m
+wokenBy (InSession s) at m = cond (pastLimit (s .heard) 2000 at) (started (later (s .heard) 2000) (m .stored) m) m
+
+abbrev pub woken : Stamp → Monitor → Monitor
+woken at m = wokenBy (m .phase) at m
+
+-- ---- outside a session
+
+-- "At most 10,000 ms after the last start: the challenge [..], now pending from this stamp, replacing any other. Later: NAK,
+-- nothing pending."
+abbrev pub unlocked : Stamp → Monitor → Turn
+unlocked at m =
+    cond (pastLimit (m .start) 10000 at)
+    (turn (inPhase (Outside Nothing) m) (nak (transmitId m)))
+    (turn (inPhase (Outside (Since at)) m) (challenged (transmitId m) (m .serial)))
+
+abbrev pub sessionAt : Stamp → Settings → Phase
+sessionAt at draft = InSession (record { heard = at; draft = draft })
+
+-- "Nothing pending: no reply. Right and at most 2,000 ms after the challenge: ACK, session open, draft equal to stored. Wrong or
+-- late: NAK, nothing pending, no restart."
+abbrev pub answered : Pending → Stamp → Frame → Monitor → Turn
+answered Nothing at f m = turn m quiet
+answered (Since since) at f m =
+    cond (isRight (m .serial) f && not (pastLimit since 2000 at))
+    (turn (inPhase (sessionAt at (m .stored)) m) (ack (transmitId m)))
+    (turn (inPhase (Outside Nothing) m) (nak (transmitId m)))
+
+-- "Outside a session a request 08 to 0B of length 1 or 3 gets its serial word [..]. All else, F0 included, gets no reply. None of these
+-- requests, answered or not, touches a pending challenge"
+abbrev pub outsideBy : Message → Pending → Stamp → Frame → Monitor → Turn
+outsideBy Unlock pending at f m = unlocked at m
+outsideBy Answer pending at f m = answered pending at f m
+outsideBy (SerialRequest mux) pending at f m = turn m (serialReport (transmitId m) (m .serial) mux)
+outsideBy (Read s) pending at f m = turn m quiet
+outsideBy (Write s v) pending at f m = turn m quiet
+outsideBy Commit pending at f m = turn m quiet
+outsideBy Other pending at f m = turn m quiet
+
+abbrev pub outside : Pending → Stamp → Frame → Monitor → Turn
+outside pending at f m = outsideBy (message f) pending at f m
+
+-- ---- in a session
+
+-- "every heard frame, of any length or content, restarts the 2,000 ms"
+abbrev pub goesOn : Stamp → Settings → Reply → Monitor → Turn
+goesOn at draft reply m = turn (inPhase (sessionAt at draft) m) reply
+
+-- "Write [..]: ACK and draft changed if legal, else NAK."
+abbrev pub written : Setting → ℕ → Stamp → Settings → Monitor → Turn
+written s v at draft m =
+    cond (legal (m .rating) s v)
+    (goesOn at (withValue draft s v) (ack (transmitId m)) m)
+    (goesOn at draft (nak (transmitId m)) m)
+
+-- "Commit [..]: storage works, draft stored, ACK; otherwise NAK, stored unchanged. Either way the monitor starts again at this
+-- stamp."
+abbrev pub committed : Bool → Stamp → Settings → Monitor → Turn
+committed true at draft m = turn (started at draft m) (ack (transmitId m))
+committed false at draft m = turn (started at (m .stored) m) (nak (transmitId m))
+
+-- "Anything else, unlock and answer included: NAK, session goes on"
+abbrev pub insideBy : Message → Settings → Stamp → Bool → Monitor → Turn
+insideBy (Read s) draft at storing m = goesOn at draft (shown (transmitId m) s (valueOf draft s)) m
+insideBy (Write s v) draft at storing m = written s v at draft m
+insideBy Commit draft at storing m = committed storing at draft m
+insideBy Unlock draft at storing m = goesOn at draft (nak (transmitId m)) m
+insideBy Answer draft at storing m = goesOn at draft (nak (transmitId m)) m
+insideBy (SerialRequest mux) draft at storing m = goesOn at draft (nak (transmitId m)) m
+insideBy Other draft at storing m = goesOn at draft (nak (transmitId m)) m
+
+abbrev pub inside : Settings → Stamp → Bool → Frame → Monitor → Turn
+inside draft at storing f m = insideBy (message f) draft at storing m
+
+-- ---- events
+
+-- "A frame is heard when it is extended and its identifier equals the stored receive identifier."
+abbrev pub heard : Frame → Monitor → Bool
+heard f m = f .extended && eqb (f .identifier) (m .stored .receive)
+
+abbrev pub metBy : Phase → Stamp → Bool → Frame → Monitor → Turn
+metBy (Outside pending) at storing f m = outside pending at f m
+metBy (InSession s) at storing f m = inside (s .draft) at storing f m
+
+-- a heard frame
+abbrev pub met : Stamp → Bool → Frame → Monitor → Turn
+met at storing f m = metBy (m .phase) at storing f m
+
+-- "Frames not heard get no reply."
+abbrev pub frameMet : Stamp → Bool → Frame → Monitor → Turn
+frameMet at storing f w = cond (heard f w) (met at storing f w) (turn w quiet)
+
+abbrev pub framed : Stamp → Bool → Frame → Monitor → Turn
+framed at storing f m = frameMet at storing f (woken at m)
+
+-- "A reset event starts the monitor again at its stamp, with no reply and stored settings kept."
+abbrev pub wasReset : Stamp → Monitor → Turn
+wasReset at m = turn (started at (m .stored) m) quiet
+
+-- "ticks of ten milliseconds since the last start, rounded down, silence counted"
+abbrev pub uptimeOf : Stamp → Monitor → Ticks
+uptimeOf at m = ticksBetween (woken at m .start) at

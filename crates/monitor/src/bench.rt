@@ -1,0 +1,147 @@
+// The monitor on the bench: with the last accepted stamp it gives the refusals. A refused call returns the bench it was given.
+ghost use mathlib.Core.Path.{_≡_};
+ghost use Rattle.monitor.specs.Events.{frameEvent, resetEvent, poweredOn, answeredTo, refusedBy, acceptedAt, uptimeAsked};
+use crate::message::Reply;
+use crate::message::no_reply;
+use crate::setting::Settings;
+use crate::setting::is_accepted;
+use crate::time::Stamp;
+use crate::time::Ticks;
+use crate::time::is_earlier;
+use crate::unit;
+use crate::unit::Monitor;
+use crate::unit::Turn;
+use crate::unit::start_with;
+use codec::frame::Answer;
+use codec::frame::Frame;
+use codec::frame::over_limits;
+use refusal::Refusal;
+
+pub struct Bench {
+    monitor: Monitor,
+    last: Stamp,
+}
+
+// A power-on. Where it is refused, the bench is that of a monitor with everything zero.
+pub struct PoweredOn {
+    pub answer: Answer,
+    pub bench: Bench,
+}
+
+// An event's answer, the bench after it, and the reply.
+pub struct Outcome {
+    pub answer: Answer,
+    pub bench: Bench,
+    pub reply: Reply,
+}
+
+pub enum UptimeReading {
+    Read(Ticks),
+    Refused(Refusal),
+}
+
+// ---- what a screen or a log shows
+
+pub fn monitor(b: Bench) -> Monitor
+    ensures { λ r. ⌜ r ≡ b .monitor ⌝ }
+{
+    b.monitor
+}
+
+pub fn last_stamp(b: Bench) -> Stamp
+    ensures { λ r. ⌜ r ≡ b .last ⌝ }
+{
+    b.last
+}
+
+// ---- power-on
+
+pub fn power_on(at: Stamp, serial: [u8; 16], rating: u16, settings: Settings) -> PoweredOn
+    ensures { λ r. ⌜ r ≡ poweredOn at serial rating settings ⌝ }
+{
+    let good = is_accepted(rating, settings);
+    if good {
+        return PoweredOn {
+            answer: Answer::Accepted,
+            bench: Bench {
+                monitor: start_with(serial, rating, settings, at),
+                last: at,
+            },
+        };
+    }
+    let zero = Settings {
+        receive: 0,
+        transmit: 0,
+        speed: 0,
+        voltage: 0,
+        warning: 0,
+        fault: 0,
+    };
+    PoweredOn {
+        answer: Answer::Refused(Refusal::NotLegal),
+        bench: Bench {
+            monitor: start_with([0; 16], 0, zero, Stamp(0)),
+            last: Stamp(0),
+        },
+    }
+}
+
+// ---- events
+
+fn refused(b: Bench, why: Refusal) -> Outcome
+    ensures { λ r. ⌜ r ≡ refusedBy why b ⌝ }
+{
+    Outcome {
+        answer: Answer::Refused(why),
+        bench: b,
+        reply: no_reply(),
+    }
+}
+
+fn accepted(turn: Turn, at: Stamp) -> Outcome
+    ensures { λ r. ⌜ r ≡ acceptedAt at turn ⌝ }
+{
+    let monitor = turn.monitor;
+    let reply = turn.reply;
+    Outcome {
+        answer: Answer::Accepted,
+        bench: Bench { monitor, last: at },
+        reply,
+    }
+}
+
+pub fn frame_event(b: Bench, at: Stamp, storing: bool, f: Frame) -> Outcome
+    ensures { λ r. ⌜ r ≡ answeredTo (frameEvent at storing f) b ⌝ }
+{
+    let over = over_limits(f);
+    if over {
+        return refused(b, Refusal::OverLimits);
+    }
+    let early = is_earlier(at, b.last);
+    if early {
+        return refused(b, Refusal::EarlyStamp);
+    }
+    accepted(unit::frame(b.monitor, at, storing, f), at)
+}
+
+pub fn reset_event(b: Bench, at: Stamp) -> Outcome
+    ensures { λ r. ⌜ r ≡ answeredTo (resetEvent at) b ⌝ }
+{
+    let early = is_earlier(at, b.last);
+    if early {
+        return refused(b, Refusal::EarlyStamp);
+    }
+    accepted(unit::reset(b.monitor, at), at)
+}
+
+// ---- the uptime question
+
+pub fn uptime(b: Bench, at: Stamp) -> UptimeReading
+    ensures { λ r. ⌜ r ≡ uptimeAsked at b ⌝ }
+{
+    let early = is_earlier(at, b.last);
+    if early {
+        return UptimeReading::Refused(Refusal::EarlyStamp);
+    }
+    UptimeReading::Read(unit::uptime(b.monitor, at))
+}

@@ -1,0 +1,342 @@
+// The monitor itself, rule by rule. It is given events that are within the limits and in order, and refuses nothing.
+ghost use mathlib.Core.Path.{_≡_};
+ghost use Rattle.monitor.specs.Rules.{
+  turn,
+  inPhase,
+  started,
+  startedWith,
+  woken,
+  heard,
+  unlocked,
+  sessionAt,
+  answered,
+  outside,
+  goesOn,
+  written,
+  committed,
+  inside,
+  met,
+  framed,
+  wasReset,
+  uptimeOf,
+};
+use crate::message::Message;
+use crate::message::Reply;
+use crate::message::ack_reply;
+use crate::message::challenge_reply;
+use crate::message::is_right;
+use crate::message::message_of;
+use crate::message::nak_reply;
+use crate::message::no_reply;
+use crate::message::serial_reply;
+use crate::message::value_reply;
+use crate::setting::Setting;
+use crate::setting::Settings;
+use crate::setting::is_legal;
+use crate::setting::value_of;
+use crate::setting::with_value;
+use crate::time::Stamp;
+use crate::time::Ticks;
+use crate::time::past_limit;
+use crate::time::ticks_between;
+use codec::frame::Frame;
+
+// A challenge that waits for its answer, since its stamp.
+pub enum Pending {
+    Nothing,
+    Since(Stamp),
+}
+
+// A session: the stamp of the last heard message, and the draft.
+pub struct Session {
+    pub heard: Stamp,
+    pub draft: Settings,
+}
+
+pub enum Phase {
+    Outside(Pending),
+    InSession(Session),
+}
+
+pub struct Monitor {
+    serial: [u8; 16],
+    rating: u16,
+    stored: Settings,
+    start: Stamp,
+    phase: Phase,
+}
+
+// What an event leaves: the monitor, and its reply.
+pub struct Turn {
+    pub monitor: Monitor,
+    pub reply: Reply,
+}
+
+// ---- what is stored
+
+pub fn stored(m: Monitor) -> Settings
+    ensures { λ r. ⌜ r ≡ m .stored ⌝ }
+{
+    m.stored
+}
+
+pub fn serial(m: Monitor) -> [u8; 16]
+    ensures { λ r. ⌜ r ≡ m .serial ⌝ }
+{
+    m.serial
+}
+
+pub fn rating(m: Monitor) -> u16
+    ensures { λ r. ⌜ r ≡ m .rating ⌝ }
+{
+    m.rating
+}
+
+// ---- starts and silence
+
+// Every start leaves it locked, with no draft and nothing pending.
+pub(crate) fn start_with(serial: [u8; 16], rating: u16, stored: Settings, at: Stamp) -> Monitor
+    ensures { λ r. ⌜ r ≡ startedWith serial rating stored at ⌝ }
+{
+    Monitor {
+        serial,
+        rating,
+        stored,
+        start: at,
+        phase: Phase::Outside(Pending::Nothing),
+    }
+}
+
+fn start_again(m: Monitor, stored: Settings, at: Stamp) -> Monitor
+    ensures { λ r. ⌜ r ≡ started at stored m ⌝ }
+{
+    let serial = m.serial;
+    start_with(serial, m.rating, stored, at)
+}
+
+fn with_phase(m: Monitor, phase: Phase) -> Monitor
+    ensures { λ r. ⌜ r ≡ inPhase phase m ⌝ }
+{
+    let serial = m.serial;
+    let stored = m.stored;
+    let start = m.start;
+    Monitor {
+        serial,
+        rating: m.rating,
+        stored,
+        start,
+        phase,
+    }
+}
+
+// The monitor as an event at this stamp finds it: in a session, more than 2,000 ms without a heard message have started it again.
+fn wake(m: Monitor, at: Stamp) -> Monitor
+    ensures { λ r. ⌜ r ≡ woken at m ⌝ }
+{
+    let phase = m.phase;
+    match phase {
+        Phase::Outside(_) => m,
+        Phase::InSession(s) => {
+            let silent = past_limit(s.heard, 2000, at);
+            if silent {
+                return start_again(m, m.stored, Stamp(s.heard.0 + 2000));
+            }
+            m
+        }
+    }
+}
+
+// ---- outside a session
+
+fn unlock(m: Monitor, at: Stamp) -> Turn
+    ensures { λ r. ⌜ r ≡ unlocked at m ⌝ }
+{
+    let late = past_limit(m.start, 10000, at);
+    if late {
+        return Turn {
+            monitor: with_phase(m, Phase::Outside(Pending::Nothing)),
+            reply: nak_reply(m.stored.transmit),
+        };
+    }
+    let serial = m.serial;
+    Turn {
+        monitor: with_phase(m, Phase::Outside(Pending::Since(at))),
+        reply: challenge_reply(m.stored.transmit, serial),
+    }
+}
+
+fn session_at(at: Stamp, draft: Settings) -> Phase
+    ensures { λ r. ⌜ r ≡ sessionAt at draft ⌝ }
+{
+    Phase::InSession(Session { heard: at, draft })
+}
+
+fn answer(m: Monitor, pending: Pending, at: Stamp, f: Frame) -> Turn
+    ensures { λ r. ⌜ r ≡ answered pending at f m ⌝ }
+{
+    match pending {
+        Pending::Nothing => Turn {
+            monitor: m,
+            reply: no_reply(),
+        },
+        Pending::Since(since) => {
+            let serial = m.serial;
+            let good = is_right(serial, f) & !past_limit(since, 2000, at);
+            if good {
+                return Turn {
+                    monitor: with_phase(m, session_at(at, m.stored)),
+                    reply: ack_reply(m.stored.transmit),
+                };
+            }
+            Turn {
+                monitor: with_phase(m, Phase::Outside(Pending::Nothing)),
+                reply: nak_reply(m.stored.transmit),
+            }
+        }
+    }
+}
+
+fn meet_outside(m: Monitor, pending: Pending, at: Stamp, f: Frame) -> Turn
+    ensures { λ r. ⌜ r ≡ outside pending at f m ⌝ }
+{
+    let serial = m.serial;
+    let message = message_of(f);
+    match message {
+        Message::Unlock => unlock(m, at),
+        Message::Answer => answer(m, pending, at, f),
+        Message::SerialRequest(mux) => Turn {
+            monitor: m,
+            reply: serial_reply(m.stored.transmit, serial, mux),
+        },
+        Message::Read(_) => Turn {
+            monitor: m,
+            reply: no_reply(),
+        },
+        Message::Write(_, _) => Turn {
+            monitor: m,
+            reply: no_reply(),
+        },
+        Message::Commit => Turn {
+            monitor: m,
+            reply: no_reply(),
+        },
+        Message::Other => Turn {
+            monitor: m,
+            reply: no_reply(),
+        },
+    }
+}
+
+// ---- in a session
+
+// The session goes on with this draft; the 2,000 ms run from here.
+fn go_on(m: Monitor, draft: Settings, at: Stamp, reply: Reply) -> Turn
+    ensures { λ r. ⌜ r ≡ goesOn at draft reply m ⌝ }
+{
+    Turn {
+        monitor: with_phase(m, session_at(at, draft)),
+        reply,
+    }
+}
+
+fn write(m: Monitor, draft: Settings, at: Stamp, setting: Setting, value: u32) -> Turn
+    ensures { λ r. ⌜ r ≡ written setting value at draft m ⌝ }
+{
+    let good = is_legal(m.rating, setting, value);
+    if good {
+        return go_on(
+            m,
+            with_value(draft, setting, value),
+            at,
+            ack_reply(m.stored.transmit),
+        );
+    }
+    go_on(m, draft, at, nak_reply(m.stored.transmit))
+}
+
+fn commit(m: Monitor, draft: Settings, at: Stamp, storing: bool) -> Turn
+    ensures { λ r. ⌜ r ≡ committed storing at draft m ⌝ }
+{
+    if storing {
+        return Turn {
+            monitor: start_again(m, draft, at),
+            reply: ack_reply(m.stored.transmit),
+        };
+    }
+    Turn {
+        monitor: start_again(m, m.stored, at),
+        reply: nak_reply(m.stored.transmit),
+    }
+}
+
+fn meet_inside(m: Monitor, draft: Settings, at: Stamp, storing: bool, f: Frame) -> Turn
+    ensures { λ r. ⌜ r ≡ inside draft at storing f m ⌝ }
+{
+    let message = message_of(f);
+    match message {
+        Message::Read(setting) => {
+            go_on(
+                m,
+                draft,
+                at,
+                value_reply(m.stored.transmit, setting, value_of(draft, setting)),
+            )
+        }
+        Message::Write(setting, value) => write(m, draft, at, setting, value),
+        Message::Commit => commit(m, draft, at, storing),
+        Message::Unlock => go_on(m, draft, at, nak_reply(m.stored.transmit)),
+        Message::Answer => go_on(m, draft, at, nak_reply(m.stored.transmit)),
+        Message::SerialRequest(_) => go_on(m, draft, at, nak_reply(m.stored.transmit)),
+        Message::Other => go_on(m, draft, at, nak_reply(m.stored.transmit)),
+    }
+}
+
+// ---- events
+
+fn is_heard(m: Monitor, f: Frame) -> bool
+    ensures { λ r. ⌜ r ≡ heard f m ⌝ }
+{
+    f.extended & (f.identifier == m.stored.receive)
+}
+
+// A heard frame, met by a monitor that silence has already had its way with.
+fn meet(m: Monitor, at: Stamp, storing: bool, f: Frame) -> Turn
+    ensures { λ r. ⌜ r ≡ met at storing f m ⌝ }
+{
+    let phase = m.phase;
+    match phase {
+        Phase::Outside(pending) => meet_outside(m, pending, at, f),
+        Phase::InSession(s) => meet_inside(m, s.draft, at, storing, f),
+    }
+}
+
+pub fn frame(m: Monitor, at: Stamp, storing: bool, f: Frame) -> Turn
+    ensures { λ r. ⌜ r ≡ framed at storing f m ⌝ }
+{
+    let w = wake(m, at);
+    let h = is_heard(w, f);
+    if h {
+        return meet(w, at, storing, f);
+    }
+    Turn {
+        monitor: w,
+        reply: no_reply(),
+    }
+}
+
+pub fn reset(m: Monitor, at: Stamp) -> Turn
+    ensures { λ r. ⌜ r ≡ wasReset at m ⌝ }
+{
+    Turn {
+        monitor: start_again(m, m.stored, at),
+        reply: no_reply(),
+    }
+}
+
+// The uptime at a stamp: the ticks since the last start, silence counted.
+pub fn uptime(m: Monitor, at: Stamp) -> Ticks
+    ensures { λ r. ⌜ r ≡ uptimeOf at m ⌝ }
+{
+    let w = wake(m, at);
+    ticks_between(w.start, at)
+}
