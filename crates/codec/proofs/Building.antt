@@ -23,15 +23,16 @@ use Rattle.codec.specs.declared.request.Request.the-variants.{ReadIsolat
 use Rattle.refusal.specs.declared.Refusal.the-variants.{OverLimits, NotListed, DoesNotFit}
 use Rattle.codec.specs.Frames.{bodyOf, frameOf, frameWith, refused, blank}
 use Rattle.codec.specs.Table.{Field, lineOf, unsigned, estimatesOf, voltageAt, flagsOf}
+use Rattle.refusal.specs.Conditions.{_when_}
+use Rattle.refusal.proofs.Conditions.{pick, pick-exactly, first-not-none}
 use Rattle.codec.specs.Answers.{estimates, toldBuilt}
 use Rattle.codec.specs.Reports.{badStatus}
 use Rattle.codec.specs.Building.{isSim100, unlisted, voltageMisfit, flagsMisfit, misfit, reportBytes, buildReport}
 use Rattle.codec.specs.Requests.{unlistedRequest, requestBytes, buildRequest}
-use Rattle.codec.specs.Conditions.{_when_, isNone, threeOf, threeAsked, fits, allFit, fiveOf, sixOf, reportBuildConditions, requestBuildConditions}
+use Rattle.codec.specs.Conditions.{isNone, threeOf, threeAsked, fits, allFit, fiveOf, sixOf, reportBuildConditions, requestBuildConditions}
 use Rattle.codec.specs.Held.{HeldEstimates, HeldReport}
 use Rattle.codec.specs.Promise.{Builds}
 use Rattle.codec.proofs.Table.{word-line}
-use Rattle.codec.proofs.Conditions.{pick, pick-exactly, first-not-none}
 use Rattle.codec.proofs.Reading.{five-in, five-below}
 
 -- ---- fits, allFit
@@ -145,32 +146,32 @@ three-asked k (SetWorkingVoltage v) = voltage-three k
 
 -- ---- the answers: 1, 3, 6 in that order, or the frame
 
-abbrev answer : Bool → Bool → Bool → Built → Built
-answer one three six b = cond one (refused OverLimits) (cond three (refused NotListed) (cond six (refused DoesNotFit) b))
+abbrev inOrder : Bool → Bool → Bool → Built → Built
+inOrder one three six b = cond one (refused OverLimits) (cond three (refused NotListed) (cond six (refused DoesNotFit) b))
 
-told : (a b c : Bool) (i : ℕ) (bs : List ℕ) → toldBuilt (answer a b c (frameWith i (bodyOf bs))) ≡ pick ((1 when a) ∷ (3 when b) ∷ (6 when c) ∷ []) (toldBuilt (frameWith i (bodyOf bs)))
+told : (a b c : Bool) (i : ℕ) (bs : List ℕ) → toldBuilt (inOrder a b c (frameWith i (bodyOf bs))) ≡ pick ((1 when a) ∷ (3 when b) ∷ (6 when c) ∷ []) (i, map pos (take (length bs) (bodyOf bs .bytes)))
 told true b c i bs = refl
 told false true c i bs = refl
 told false false true i bs = refl
 told false false false i bs = refl
 
-no-frame : (a b c : Bool) (f : Built) → (a ≡ false → b ≡ false → c ≡ false → ⊥) → answer a b c f .frame ≡ blank
+no-frame : (a b c : Bool) (f : Built) → (a ≡ false → b ≡ false → c ≡ false → ⊥) → inOrder a b c f .frame ≡ blank
 no-frame true b c f h = refl
 no-frame false true c f h = refl
 no-frame false false true f h = refl
 no-frame false false false f h = absurd (h refl refl refl)
 
-builds : (b : Built) (one three six : Bool) (i : ℕ) (bs : List ℕ) → b ≡ answer one three six (frameWith i (bodyOf bs)) → Builds b ((1 when one) ∷ (3 when three) ∷ (6 when six) ∷ []) (frameOf i (bodyOf bs))
+builds : (b : Built) (one three six : Bool) (i : ℕ) (bs : List ℕ) → b ≡ inOrder one three six (frameWith i (bodyOf bs)) → Builds b ((1 when one) ∷ (3 when three) ∷ (6 when six) ∷ []) (frameOf i (bodyOf bs))
 builds b one three six i bs e =
     let cs = (1 when one) ∷ (3 when three) ∷ (6 when six) ∷ [] in
     record {
-      refused = λ n. rw (e, told one three six i bs) (pick-exactly cs i n (map pos (take (length bs) (bodyOf bs .bytes))));
+      refused = λ n. rw (e, told one three six i bs) (pick-exactly cs (i, map pos (take (length bs) (bodyOf bs .bytes))) n);
       nothing = λ n h. ap (λ (x : Built). x .frame) e ∙ no-frame one three six (frameWith i (bodyOf bs)) (λ x y z. first-not-none n cs h (x, (y, (z, tt))));
       built = λ h. e ∙ rw (h .0, h .1 .0, h .1 .1 .0) refl;
     }
 
 -- 6 is looked at only where 3 is not due
-report-is : (k : Kind) (identifier : ℕ) (r : Report) → HeldReport r → buildReport k identifier r ≡ answer (ltb 0x1FFFFFFF identifier) (threeOf k r) (sixOf k r) (frameWith identifier (bodyOf (reportBytes k r)))
+report-is : (k : Kind) (identifier : ℕ) (r : Report) → HeldReport r → buildReport k identifier r ≡ inOrder (ltb 0x1FFFFFFF identifier) (threeOf k r) (sixOf k r) (frameWith identifier (bodyOf (reportBytes k r)))
 unfolding buildReport
 report-is k identifier r held =
     decided (unlisted k r) (λ y. rw (y, sym (three-is k r) ∙ y) refl) (λ y. rw (y, sym (three-is k r) ∙ y, six-is k r held y) refl)
@@ -179,10 +180,10 @@ pub report-built : (k : Kind) (identifier : ℕ) (r : Report) → HeldReport r �
 report-built k identifier r held =
     builds (buildReport k identifier r) (ltb 0x1FFFFFFF identifier) (threeOf k r) (sixOf k r) identifier (reportBytes k r) (report-is k identifier r held)
 
-request-is : (k : Kind) (identifier : ℕ) (r : Request) → buildRequest k identifier r ≡ answer (ltb 0x1FFFFFFF identifier) (threeAsked k r) false (frameWith identifier (bodyOf (requestBytes k r)))
+request-is : (k : Kind) (identifier : ℕ) (r : Request) → buildRequest k identifier r ≡ inOrder (ltb 0x1FFFFFFF identifier) (threeAsked k r) false (frameWith identifier (bodyOf (requestBytes k r)))
 unfolding buildRequest
 request-is k identifier r =
-    ap (λ (t : Bool). answer (ltb 0x1FFFFFFF identifier) t false (frameWith identifier (bodyOf (requestBytes k r)))) (three-asked k r)
+    ap (λ (t : Bool). inOrder (ltb 0x1FFFFFFF identifier) t false (frameWith identifier (bodyOf (requestBytes k r)))) (three-asked k r)
 
 pub request-built : (k : Kind) (identifier : ℕ) (r : Request) → Builds (buildRequest k identifier r) (requestBuildConditions k identifier r) (frameOf identifier (bodyOf (requestBytes k r)))
 request-built k identifier r =

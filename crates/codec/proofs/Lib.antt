@@ -1,6 +1,5 @@
 -- The laws of the codec's definitions, and the proofs of its promise.
 pub mod Table
-pub mod Conditions
 pub mod Reading
 pub mod Building
 pub mod ReadsBack

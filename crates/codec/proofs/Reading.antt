@@ -11,6 +11,8 @@ use lib.IntN.{ℤ, pos}
 use lib.ListN.{getD, drop}
 use Rattle.words.proofs.Tests.{decided}
 use Rattle.refusal.specs.Refusals.{numberOf}
+use Rattle.refusal.specs.Conditions.{Condition, _when_, Told, refusal, answer, Answers}
+use Rattle.refusal.proofs.Conditions.{pick, answers}
 use Rattle.refusal.specs.declared.Refusal.{Refusal}
 use Rattle.refusal.specs.declared.Refusal.the-variants.{OverLimits, NotExpected, NotListed}
 use Rattle.codec.specs.declared.frame.Frame.{Frame}
@@ -22,13 +24,14 @@ use Rattle.codec.specs.declared.report.ReportReading.the-variants.{Read}
 use Rattle.codec.specs.declared.request.RequestReading.the-variants.{Read as Asked}
 use Rattle.codec.specs.Frames.{overLimits, notExpected, muxOf}
 use Rattle.codec.specs.Table.{Field, Line, unsigned, estimatesOf, voltageAt, flagsOf, valueIn, numberAt, table, own, lineOf, asRow, rowOf, frameRow}
-use Rattle.codec.specs.Answers.{Told, refusal, values, toldReport, toldRequest}
+use Rattle.codec.specs.Answers.{Values, toldReport, toldRequest}
 use Rattle.codec.specs.Reports.{voltageOf, flagsIn, badStatus, hasStatus, wrongStatus, reportOf, reportIn, readReport}
 use Rattle.codec.specs.Requests.{requestOf, requestIn, readRequest}
-use Rattle.codec.specs.Conditions.{Condition, _when_, isNone, notListed, reportLength, requestLengthOf, reportFields, requestFields, fiveOf, reportConditions, requestConditions, tableReport, tableRequest}
-use Rattle.codec.specs.Promise.{Answers}
+use Rattle.codec.specs.Conditions.{isNone, notListed, reportLength, requestLengthOf, reportFields, requestFields, fiveOf, reportConditions, requestConditions, tableReport, tableRequest}
 use Rattle.codec.proofs.Table.{Each, by-line, just}
-use Rattle.codec.proofs.Conditions.{pick, answers}
+
+abbrev values : ℕ → List ℤ → Told Values
+values m vs = answer (m, vs)
 
 -- ---- fields
 
@@ -65,7 +68,7 @@ module _ (k : Kind) (f : Frame) where
       toldReport (reportIn k f (asRow o))
       ≡ pick
       ((3 when isNone o) ∷ (4 when not (eqb (f .length) (reportLength o))) ∷ (5 when fiveOf k m (getD (f .bytes) 1 0)) ∷ [])
-      (values m (map (valueIn (f .bytes)) (reportFields o)))
+      (m, map (valueIn (f .bytes)) (reportFields o))
 
   -- a line says it where it is right about the status and about the values
   says : (m : ℕ) (l : Line) → wrongStatus k (l .row) (getD (f .bytes) 1 0) ≡ fiveOf k m (getD (f .bytes) 1 0) → (m ≡ muxOf f → toldReport (Read (reportOf k (l .row) (f .bytes))) ≡ values m (map (valueIn (f .bytes)) (l .fields))) → Says m (some l)
@@ -122,7 +125,7 @@ lines k f =
 
 -- ---- 1, 2, 3: the same for reports and requests
 
-module _ (told : Listing → Told) (k : Kind) (expected : ℕ) (f : Frame) (cs : List Condition) (t : Told) where
+module _ (told : Listing → Told Values) (k : Kind) (expected : ℕ) (f : Frame) (cs : List Condition) (t : Values) where
   after-limits : ((why : Refusal) → told (Unlisted why) ≡ refusal (numberOf why)) → told (rowOf k (muxOf f)) ≡ pick ((3 when isNone (lineOf k (muxOf f))) ∷ cs) t → told (frameRow k expected f) ≡ pick ((1 when overLimits f) ∷ (2 when notExpected expected f) ∷ (3 when notListed k f) ∷ cs) t
   after-limits why row =
       decided (overLimits f)
@@ -142,7 +145,7 @@ report-told k expected f =
 
 pub report-read : (k : Kind) (expected : ℕ) (f : Frame) → Answers (toldReport (readReport k expected f)) (reportConditions k expected f) (tableReport k f)
 report-read k expected f =
-    answers (toldReport (readReport k expected f)) (reportConditions k expected f) (muxOf f) (map (valueIn (f .bytes)) (reportFields (lineOf k (muxOf f))))
+    answers (toldReport (readReport k expected f)) (reportConditions k expected f) (tableReport k f)
     (report-told k expected f)
 
 -- ---- requests, line by line
@@ -154,7 +157,7 @@ module _ (f : Frame) where
       toldRequest (requestIn f (asRow o))
       ≡ pick
       ((3 when isNone o) ∷ (4 when not (eqb (f .length) (requestLengthOf o))) ∷ [])
-      (values m (map (valueIn (f .bytes)) (requestFields o)))
+      (m, map (valueIn (f .bytes)) (requestFields o))
 
   asks : (m : ℕ) (l : Line) → (m ≡ muxOf f → toldRequest (Asked (requestOf (l .row) (f .bytes))) ≡ values m (map (valueIn (f .bytes)) (l .asked))) → Asks m (some l)
   asks m l fields e =
@@ -197,5 +200,5 @@ request-told k expected f =
 
 pub request-read : (k : Kind) (expected : ℕ) (f : Frame) → Answers (toldRequest (readRequest k expected f)) (requestConditions k expected f) (tableRequest k f)
 request-read k expected f =
-    answers (toldRequest (readRequest k expected f)) (requestConditions k expected f) (muxOf f) (map (valueIn (f .bytes)) (requestFields (lineOf k (muxOf f))))
+    answers (toldRequest (readRequest k expected f)) (requestConditions k expected f) (tableRequest k f)
     (request-told k expected f)

@@ -4,6 +4,7 @@ use mathlib.Core.List.{List, [], _∷_, map}
 use lib.IntN.{ℤ, pos}
 use lib.ListN.{take}
 use Rattle.refusal.specs.Refusals.{numberOf}
+use Rattle.refusal.specs.Conditions.{Told, refusal, answer}
 use Rattle.codec.specs.declared.frame.Frame.{Frame}
 use Rattle.codec.specs.declared.frame.Built.{Built}
 use Rattle.codec.specs.declared.frame.Answer.{Answer}
@@ -18,10 +19,9 @@ use Rattle.codec.specs.declared.request.Request.the-variants.{ReadIsolat
 use Rattle.codec.specs.declared.request.RequestReading.{RequestReading}
 use Rattle.codec.specs.declared.request.RequestReading.the-variants.{Read as Asked, Refused as NotAsked}
 
--- the number of a refusal, or a multiplexer with its values in the order of the table
-pub data Told : Type 0 where
-  refusal : ℕ → Told
-  values : ℕ → List ℤ → Told
+-- a multiplexer with its values in the order of the table; of a frame, its identifier with its bytes
+abbrev pub Values : Type 0
+Values = ℕ × List ℤ
 
 -- ---- reports
 
@@ -50,8 +50,8 @@ reportValues (Word mux w) = pos w ∷ []
 reportValues (Temperature z) = z ∷ []
 reportValues (WorkingVoltage v) = pos v ∷ []
 
-abbrev pub toldReport : ReportReading → Told
-toldReport (Read r) = values (reportMux r) (reportValues r)
+abbrev pub toldReport : ReportReading → Told Values
+toldReport (Read r) = answer (reportMux r, reportValues r)
 toldReport (Refused why) = refusal (numberOf why)
 
 -- ---- requests
@@ -78,15 +78,15 @@ requestValues (ReadWord mux) = []
 requestValues ReadTemperature = []
 requestValues (SetWorkingVoltage v) = pos v ∷ []
 
-abbrev pub toldRequest : RequestReading → Told
-toldRequest (Asked r) = values (requestMux r) (requestValues r)
+abbrev pub toldRequest : RequestReading → Told Values
+toldRequest (Asked r) = answer (requestMux r, requestValues r)
 toldRequest (NotAsked why) = refusal (numberOf why)
 
 -- ---- frames that were built: the identifier and the bytes, as a listing shows them
 
-abbrev pub toldFrame : Answer → Frame → Told
-toldFrame Accepted f = values (f .identifier) (map pos (take (f .length) (f .bytes)))
+abbrev pub toldFrame : Answer → Frame → Told Values
+toldFrame Accepted f = answer (f .identifier, map pos (take (f .length) (f .bytes)))
 toldFrame (NotBuilt why) f = refusal (numberOf why)
 
-abbrev pub toldBuilt : Built → Told
+abbrev pub toldBuilt : Built → Told Values
 toldBuilt b = toldFrame (b .answer) (b .frame)

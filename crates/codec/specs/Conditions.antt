@@ -9,6 +9,7 @@ use lib.Dec.{ltb, leb, eqb}
 use lib.IntN.{ℤ, pos, negsuc}
 use lib.ListN.{getD}
 use Rattle.words.specs.Signed.{holds, holdsUnsigned}
+use Rattle.refusal.specs.Conditions.{Condition, _when_}
 use Rattle.codec.specs.declared.frame.Frame.{Frame}
 use Rattle.codec.specs.declared.rows.Kind.{Kind}
 use Rattle.codec.specs.declared.report.Report.{Report}
@@ -17,28 +18,8 @@ use Rattle.codec.specs.declared.request.Request.{Request}
 use Rattle.codec.specs.declared.request.Request.the-variants.{ReadIsolationState, ReadResistances, ReadCapacitances, ReadVoltages, ReadBattery, ReadErrorFlags, ReadWord, ReadTemperature, SetWorkingVoltage}
 use Rattle.codec.specs.Frames.{overLimits, notExpected, muxOf}
 use Rattle.codec.specs.Table.{Field, Line, lineOf, valueIn}
-use Rattle.codec.specs.Answers.{Told, values, reportMux, reportValues, requestMux}
+use Rattle.codec.specs.Answers.{Values, reportMux, reportValues, requestMux}
 use Rattle.codec.specs.Building.{isSim100}
-
--- ---- conditions in order
-
-pub record Condition : Type 0 where
-  pub number : ℕ
-  pub holds : Bool
-
-infix 20 _when_
-abbrev pub _when_ : ℕ → Bool → Condition
-number when test = record { number = number; holds = test }
-
--- the condition of n holds and none before it
-abbrev pub First : ℕ → List Condition → Type 0
-First n [] = ⊥
-First n (c ∷ cs) = ((c .holds ≡ true) × (n ≡ c .number)) ⊎ ((c .holds ≡ false) × First n cs)
-
--- no condition holds
-abbrev pub None : List Condition → Type 0
-None [] = Unit
-None (c ∷ cs) = (c .holds ≡ false) × None cs
 
 -- ---- the line of a multiplexer
 
@@ -93,11 +74,11 @@ requestConditions k expected f =
     ∷ []
 
 -- the multiplexer, with the values that the table's line finds in the bytes
-abbrev pub tableReport : Kind → Frame → Told
-tableReport k f = values (muxOf f) (map (valueIn (f .bytes)) (reportFields (lineOf k (muxOf f))))
+abbrev pub tableReport : Kind → Frame → Values
+tableReport k f = (muxOf f, map (valueIn (f .bytes)) (reportFields (lineOf k (muxOf f))))
 
-abbrev pub tableRequest : Kind → Frame → Told
-tableRequest k f = values (muxOf f) (map (valueIn (f .bytes)) (requestFields (lineOf k (muxOf f))))
+abbrev pub tableRequest : Kind → Frame → Values
+tableRequest k f = (muxOf f, map (valueIn (f .bytes)) (requestFields (lineOf k (muxOf f))))
 
 -- ---- building
 

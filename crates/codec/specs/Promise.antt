@@ -6,6 +6,7 @@ use mathlib.Core.List.{List, _++_}
 use mathlib.Core.Logic.{_↔_}
 use lib.Dec.{eqb}
 use lib.ListN.{take, replicate}
+use Rattle.refusal.specs.Conditions.{Condition, First, None, refusal, Answers}
 use Rattle.codec.specs.declared.frame.Frame.{Frame}
 use Rattle.codec.specs.declared.frame.Built.{Built}
 use Rattle.codec.specs.declared.frame.Answer.the-variants.{Accepted}
@@ -15,8 +16,8 @@ use Rattle.codec.specs.declared.report.ReportReading.the-variants.{Read}
 use Rattle.codec.specs.declared.request.Request.{Request}
 use Rattle.codec.specs.declared.request.RequestReading.the-variants.{Read as Asked}
 use Rattle.codec.specs.Frames.{muxOf, bodyOf, frameOf, blank}
-use Rattle.codec.specs.Answers.{Told, refusal, toldReport, toldRequest, toldBuilt}
-use Rattle.codec.specs.Conditions.{Condition, First, None, reportConditions, requestConditions, tableReport, tableRequest, reportBuildConditions, requestBuildConditions}
+use Rattle.codec.specs.Answers.{toldReport, toldRequest, toldBuilt}
+use Rattle.codec.specs.Conditions.{reportConditions, requestConditions, tableReport, tableRequest, reportBuildConditions, requestBuildConditions}
 use Rattle.codec.specs.Held.{HeldFrame, HeldReport, HeldRequest}
 use Rattle.codec.specs.Reports.{readReport}
 use Rattle.codec.specs.Building.{isSim100, reportBytes, buildReport}
@@ -24,15 +25,10 @@ use Rattle.codec.specs.Requests.{readRequest, requestBytes, buildRequest
 
 -- ---- answered or refused
 
--- What is told is refusal n exactly when the condition of n holds and none before it; where none holds it is the good answer.
-pub record Answers (told : Told) (cs : List Condition) (good : Told) : Type 0 where
-  pub refused : (n : ℕ) → told ≡ refusal n ↔ First n cs
-  pub answered : None cs → told ≡ good
-
 abbrev pub accepted : Frame → Built
 accepted f = record { answer = Accepted; frame = f }
 
--- The same of a frame to be built: where a condition holds the frame is blank, and where none holds it is this one.
+-- A frame to be built: refused as the conditions say, and blank then; where none holds it is this one.
 pub record Builds (b : Built) (cs : List Condition) (f : Frame) : Type 0 where
   pub refused : (n : ℕ) → toldBuilt b ≡ refusal n ↔ First n cs
   pub nothing : (n : ℕ) → First n cs → b .frame ≡ blank

@@ -1,5 +1,6 @@
 -- Events on the bench: what they are, the refusals 1 and 7 and power-on's 8, and runs of them.
 use Prim.Native.Nat.{ℕ}
+use mathlib.Core.Path.{_≡_}
 use mathlib.Core.Bool.{Bool, true, false, cond}
 use mathlib.Core.List.{List, [], _∷_}
 use lib.ListN.{replicate}
@@ -81,3 +82,20 @@ poweredOn at serial rating k =
 
 abbrev pub uptimeAsked : Stamp → Bench → UptimeReading
 uptimeAsked at b = cond (earlier at (b .last)) (NotTicked EarlyStamp) (Ticked (uptimeOf at (b .monitor)))
+
+-- ---- runs
+
+-- what power-on takes
+pub record PowerOn : Type 0 where
+  pub at : Stamp
+  pub serial : List ℕ
+  pub rating : ℕ
+  pub settings : Settings
+
+abbrev pub IsAccepted : PowerOn → Type 0
+IsAccepted p = accepted (p .rating) (p .settings) ≡ true
+
+-- the bench after power-on and a history of events, the newest first. A refused event leaves it as it was
+abbrev pub after : PowerOn → List Event → Bench
+after p [] = poweredOn (p .at) (p .serial) (p .rating) (p .settings) .bench
+after p (e ∷ h) = answeredTo e (after p h) .bench

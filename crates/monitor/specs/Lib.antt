@@ -4,3 +4,5 @@ pub mod Settings
 pub mod Messages
 pub mod Rules
 pub mod Events
+pub mod Answers
+pub mod Promise

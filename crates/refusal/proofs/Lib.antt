@@ -1,2 +1,3 @@
--- The law of the refusals' numbers.
+-- The laws of the refusals: no two numbers alike, and the first condition that holds decides.
 pub mod Refusals
+pub mod Conditions

@@ -1,0 +1,72 @@
+-- Events, power-on and the uptime question: answered, or refused by the first condition that holds. Assumes nothing.
+use Prim.Native.Nat.{ℕ, _-_, _/_}
+use mathlib.Core.Path.{_≡_, refl}
+use mathlib.Core.Bool.{Bool, true, false, not, cond}
+use mathlib.Core.List.{[], _∷_}
+use Rattle.refusal.specs.declared.Refusal.the-variants.{OverLimits, EarlyStamp, NotLegal}
+use Rattle.refusal.specs.Conditions.{_when_, First, None, Answers}
+use Rattle.refusal.proofs.Conditions.{pick, answers, first-not-none}
+use Rattle.codec.specs.declared.frame.Answer.the-variants.{Accepted, Refused}
+use Rattle.monitor.specs.declared.time.Stamp.{Stamp}
+use Rattle.monitor.specs.declared.time.Ticks.{Ticks}
+use Rattle.monitor.specs.declared.unit.Turn.{Turn}
+use Rattle.monitor.specs.declared.bench.Bench.{Bench}
+use Rattle.monitor.specs.declared.bench.PoweredOn.{PoweredOn}
+use Rattle.monitor.specs.declared.bench.Outcome.{Outcome}
+use Rattle.monitor.specs.declared.bench.UptimeReading.{UptimeReading}
+use Rattle.monitor.specs.declared.bench.UptimeReading.the-variants.{Read as Ticked, Refused as NotTicked}
+use Rattle.monitor.specs.Times.{earlier}
+use Rattle.monitor.specs.Settings.{accepted}
+use Rattle.monitor.specs.Messages.{quiet as noReply}
+use Rattle.monitor.specs.Rules.{woken, uptimeOf}
+use Rattle.monitor.specs.Events.{Event, PowerOn, beyond, early, stampOf, step, refusedBy, acceptedAt, answeredTo, poweredOn, uptimeAsked, benchAt}
+use Rattle.monitor.specs.Answers.{on, ticks, givenReply, toldOutcome, toldPowerOn, toldUptime, eventConditions, powerOnConditions, uptimeConditions}
+use Rattle.monitor.specs.Promise.{Handles}
+
+-- ---- events, over the two tests
+
+module _ (b : Bench) (at : Stamp) (t : Turn) where
+  abbrev inOrder : Bool → Bool → Outcome
+  inOrder over late = cond over (refusedBy OverLimits b) (cond late (refusedBy EarlyStamp b) (acceptedAt at t))
+
+  told : (x y : Bool) → toldOutcome (inOrder x y) ≡ pick ((1 when x) ∷ (7 when y) ∷ []) (givenReply (t .reply))
+  told true y = refl
+  told false true = refl
+  told false false = refl
+
+  same : (x y : Bool) (n : ℕ) → First n ((1 when x) ∷ (7 when y) ∷ []) → (inOrder x y .bench ≡ b) × (inOrder x y .reply ≡ noReply)
+  same true y n h = (refl, refl)
+  same false true n h = (refl, refl)
+  same false false n h = absurd (first-not-none n ((1 when false) ∷ (7 when false) ∷ []) h (refl, (refl, tt)))
+
+  next : (x y : Bool) → None ((1 when x) ∷ (7 when y) ∷ []) → inOrder x y .bench ≡ benchAt at (t .monitor)
+  next x y h = rw (h .0, h .1 .0) refl
+
+pub handles : (e : Event) (b : Bench) → Handles e b
+handles e b =
+    let t = step e (b .monitor) in
+    record {
+      answers = answers (toldOutcome (answeredTo e b)) (eventConditions e b) (givenReply (t .reply)) (told b (stampOf e) t (beyond e) (early e b));
+      same = same b (stampOf e) t (beyond e) (early e b);
+      next = next b (stampOf e) t (beyond e) (early e b);
+    }
+
+-- ---- power-on, and the uptime question
+
+on-told : (x : Bool) (b c : Bench) → toldPowerOn (cond x (record { answer = Accepted; bench = b }) (record { answer = Refused NotLegal; bench = c })) ≡ pick ((8 when not x) ∷ []) on
+on-told true b c = refl
+on-told false b c = refl
+
+pub powers-on : (p : PowerOn) → Answers (toldPowerOn (poweredOn (p .at) (p .serial) (p .rating) (p .settings))) (powerOnConditions p) on
+powers-on p =
+    answers (toldPowerOn (poweredOn (p .at) (p .serial) (p .rating) (p .settings))) (powerOnConditions p) on
+    (on-told (accepted (p .rating) (p .settings)) _ _)
+
+ticks-told : (x : Bool) (t : Ticks) → toldUptime (cond x (NotTicked EarlyStamp) (Ticked t)) ≡ pick ((7 when x) ∷ []) (ticks (t .0))
+ticks-told true t = refl
+ticks-told false t = refl
+
+pub uptime-told : (at : Stamp) (b : Bench) → Answers (toldUptime (uptimeAsked at b)) (uptimeConditions at b) (ticks ((at .0 - woken at (b .monitor) .start .0) / 10))
+uptime-told at b =
+    answers (toldUptime (uptimeAsked at b)) (uptimeConditions at b) (ticks ((at .0 - woken at (b .monitor) .start .0) / 10))
+    (ticks-told (earlier at (b .last)) (uptimeOf at (b .monitor)))

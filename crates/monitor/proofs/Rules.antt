@@ -1,0 +1,43 @@
+-- The rules: silence keeps what is stored, an unheard frame changes nothing more, and a start keeps nothing else. Assumes nothing.
+use mathlib.Core.Path.{_≡_, refl, ap, _∙_}
+use mathlib.Core.Bool.{Bool, true, false, cond, _&&_}
+use lib.Dec.{eqb}
+use Rattle.words.proofs.Tests.{decided}
+use Rattle.codec.specs.declared.frame.Frame.{Frame}
+use Rattle.monitor.specs.declared.time.Stamp.{Stamp}
+use Rattle.monitor.specs.declared.setting.Settings.{Settings}
+use Rattle.monitor.specs.declared.message.Message.{Message}
+use Rattle.monitor.specs.declared.unit.Phase.{Phase}
+use Rattle.monitor.specs.declared.unit.Phase.the-variants.{Outside, InSession}
+use Rattle.monitor.specs.declared.unit.Monitor.{Monitor}
+use Rattle.monitor.specs.declared.unit.Turn.{Turn}
+use Rattle.monitor.specs.Times.{pastLimit}
+use Rattle.monitor.specs.Messages.{isCommit, quiet}
+use Rattle.monitor.specs.Rules.{turn, started, wokenBy, woken, insideBy, heard, met, frameMet, framed}
+use Rattle.monitor.specs.Promise.{UnheardChangesNothing, Starts}
+use Rattle.monitor.proofs.Messages.{says}
+
+woken-stored-by : (phase : Phase) (at : Stamp) (m : Monitor) → wokenBy phase at m .stored ≡ m .stored
+woken-stored-by (Outside pending) at m = refl
+woken-stored-by (InSession s) at m = decided (pastLimit (s .heard) 2000 at) (λ t. rw t refl) (λ t. rw t refl)
+
+-- silence stores nothing
+pub woken-stored : (at : Stamp) (m : Monitor) → woken at m .stored ≡ m .stored
+woken-stored at m = woken-stored-by (m .phase) at m
+
+-- it is heard as before
+woken-heard : (at : Stamp) (f : Frame) (m : Monitor) → heard f (woken at m) ≡ heard f m
+woken-heard at f m = ap (λ (k : Settings). f .extended && eqb (f .identifier) (k .receive)) (woken-stored at m)
+
+pub unheard : UnheardChangesNothing
+unheard at storing f m h =
+    ap (λ (t : Bool). cond t (met at storing f (woken at m)) (turn (woken at m) quiet)) (woken-heard at f m ∙ h)
+
+pub starts : (m : Monitor) → Starts m
+starts m =
+    record {
+      reset = λ at. refl;
+      stored = λ at draft f h. ap (λ (x : Message). insideBy x draft at true m .monitor) (says f .commit h);
+      failed = λ at draft f h. ap (λ (x : Message). insideBy x draft at false m .monitor) (says f .commit h);
+      silent = λ s at h t. ap (λ (p : Phase). wokenBy p at m) h ∙ rw t refl;
+    }

@@ -1,0 +1,62 @@
+-- Answers on paper: for each case of an answer, document 01's number and values.
+use Prim.Native.Nat.{ℕ}
+use mathlib.Core.Bool.{Bool, true, false, not}
+use mathlib.Core.List.{List, [], _∷_}
+use lib.ListN.{take}
+use Rattle.refusal.specs.Refusals.{numberOf}
+use Rattle.refusal.specs.Conditions.{Condition, _when_, Told, refusal, answer}
+use Rattle.codec.specs.declared.frame.Frame.{Frame}
+use Rattle.codec.specs.declared.frame.Answer.{Answer}
+use Rattle.codec.specs.declared.frame.Answer.the-variants.{Accepted, Refused}
+use Rattle.monitor.specs.declared.time.Stamp.{Stamp}
+use Rattle.monitor.specs.declared.message.Reply.{Reply}
+use Rattle.monitor.specs.declared.bench.Bench.{Bench}
+use Rattle.monitor.specs.declared.bench.PoweredOn.{PoweredOn}
+use Rattle.monitor.specs.declared.bench.Outcome.{Outcome}
+use Rattle.monitor.specs.declared.bench.UptimeReading.{UptimeReading}
+use Rattle.monitor.specs.declared.bench.UptimeReading.the-variants.{Read as Ticked, Refused as NotTicked}
+use Rattle.monitor.specs.Times.{earlier}
+use Rattle.monitor.specs.Settings.{accepted}
+use Rattle.monitor.specs.Events.{Event, PowerOn, beyond, early}
+
+-- the monitor is on; no reply; the identifier and the bytes of a reply; the ticks of the uptime
+pub data Given : Type 0 where
+  on : Given
+  quiet : Given
+  reply : ℕ → List ℕ → Given
+  ticks : ℕ → Given
+
+abbrev pub toldBy : Answer → Given → Told Given
+toldBy Accepted given = answer given
+toldBy (Refused why) given = refusal (numberOf why)
+
+abbrev pub givenFrame : Bool → Frame → Given
+givenFrame false f = quiet
+givenFrame true f = reply (f .identifier) (take (f .length) (f .bytes))
+
+abbrev pub givenReply : Reply → Given
+givenReply r = givenFrame (r .sent) (r .frame)
+
+abbrev pub toldOutcome : Outcome → Told Given
+toldOutcome o = toldBy (o .answer) (givenReply (o .reply))
+
+abbrev pub toldPowerOn : PoweredOn → Told Given
+toldPowerOn p = toldBy (p .answer) on
+
+abbrev pub toldUptime : UptimeReading → Told Given
+toldUptime (Ticked t) = answer (ticks (t .0))
+toldUptime (NotTicked why) = refusal (numberOf why)
+
+-- ---- the conditions of the refusals
+
+-- "Event: 1, 7."
+abbrev pub eventConditions : Event → Bench → List Condition
+eventConditions e b = (1 when beyond e) ∷ (7 when early e b) ∷ []
+
+-- "8: power-on settings, rating or log block not legal"
+abbrev pub powerOnConditions : PowerOn → List Condition
+powerOnConditions p = (8 when not (accepted (p .rating) (p .settings))) ∷ []
+
+-- "7 for an early stamp"
+abbrev pub uptimeConditions : Stamp → Bench → List Condition
+uptimeConditions at b = (7 when earlier at (b .last)) ∷ []

@@ -1,0 +1,103 @@
+-- What the monitor promises, for every monitor, every event and every history there is. `proofs/Promise` proves it.
+use Prim.Native.Nat.{ℕ, _+_, _-_, _/_, _<_, _≤_}
+use mathlib.Core.Path.{_≡_}
+use mathlib.Core.Bool.{Bool, true, false}
+use mathlib.Core.List.{List}
+use mathlib.Core.Logic.{_↔_, _⊎_}
+use Rattle.refusal.specs.Conditions.{First, None, Answers}
+use Rattle.codec.specs.declared.frame.Frame.{Frame}
+use Rattle.codec.specs.Table.{part, numberAt}
+use Rattle.monitor.specs.declared.time.Stamp.{Stamp}
+use Rattle.monitor.specs.declared.setting.Setting.{Setting}
+use Rattle.monitor.specs.declared.setting.Settings.{Settings}
+use Rattle.monitor.specs.declared.message.Message.the-variants.{Unlock, Commit, Answer, SerialRequest, Read, Write}
+use Rattle.monitor.specs.declared.message.Reply.{Reply}
+use Rattle.monitor.specs.declared.unit.Session.{Session}
+use Rattle.monitor.specs.declared.unit.Phase.the-variants.{InSession}
+use Rattle.monitor.specs.declared.unit.Monitor.{Monitor}
+use Rattle.monitor.specs.declared.unit.Turn.{Turn}
+use Rattle.monitor.specs.declared.bench.Bench.{Bench}
+use Rattle.monitor.specs.Times.{later, pastLimit}
+use Rattle.monitor.specs.Settings.{code, legal, accepted}
+use Rattle.monitor.specs.Messages.{byte, isUnlock, isCommit, isAnswer, message, challengeOf, answerTo, isRight, quiet as noReply}
+use Rattle.monitor.specs.Rules.{turn, startedWith, woken, heard, framed, inside, wasReset}
+use Rattle.monitor.specs.Events.{Event, PowerOn, IsAccepted, stampOf, step, answeredTo, poweredOn, uptimeAsked, benchAt, after}
+use Rattle.monitor.specs.Answers.{on, ticks, givenReply, toldOutcome, toldPowerOn, toldUptime, eventConditions, powerOnConditions, uptimeConditions}
+
+-- ---- answered or refused
+
+-- An event: where it is refused the bench is the very one that was given and there is no reply; where it is accepted the monitor is the one
+-- that the rules give, and the event's stamp is now the last accepted one.
+pub record Handles (e : Event) (b : Bench) : Type 0 where
+  pub answers : Answers (toldOutcome (answeredTo e b)) (eventConditions e b) (givenReply (step e (b .monitor) .reply))
+  pub same : (n : ℕ) → First n (eventConditions e b) → (answeredTo e b .bench ≡ b) × (answeredTo e b .reply ≡ noReply)
+  pub next : None (eventConditions e b) → answeredTo e b .bench ≡ benchAt (stampOf e) (step e (b .monitor) .monitor)
+
+-- ---- messages
+
+-- Each kind of message is read as such, whatever the others are: their order in the definition decides nothing.
+pub record Says (f : Frame) : Type 0 where
+  pub unlock : isUnlock f ≡ true → message f ≡ Unlock
+  pub commit : isCommit f ≡ true → message f ≡ Commit
+  pub answer : isAnswer f ≡ true → message f ≡ Answer
+  pub serial : (f .length ≡ 1) ⊎ (f .length ≡ 3) → 0x08 ≤ byte f 0 → byte f 0 ≤ 0x0B → message f ≡ SerialRequest (byte f 0)
+  pub read : (s : Setting) → f .length ≡ 1 → byte f 0 ≡ code s → message f ≡ Read s
+  pub write : (s : Setting) → f .length ≡ 5 → byte f 0 ≡ code s → message f ≡ Write s (numberAt (f .bytes) 1 4)
+
+-- an answer is right exactly when its seven bytes are the answer to the challenge
+abbrev pub RightMeans : Type 0
+RightMeans = (serial : List ℕ) (f : Frame) → isRight serial f ≡ true ↔ part (f .bytes) 1 7 ≡ answerTo (challengeOf serial)
+
+-- "A value with its top bit set is negative and refused by NAK."
+abbrev pub NegativeRefused : Type 0
+NegativeRefused = (rating : ℕ) (s : Setting) (v : ℕ) → rating ≤ 65535 → 2147483648 ≤ v → legal rating s v ≡ false
+
+-- ---- rules
+
+-- "Frames not heard get no reply", and change nothing but what silence has already changed.
+abbrev pub UnheardChangesNothing : Type 0
+UnheardChangesNothing = (at : Stamp) (storing : Bool) (f : Frame) (m : Monitor) → heard f m ≡ false → framed at storing f m ≡ turn (woken at m) noReply
+
+-- after a start, the serial, the rating and the stored six are all that is left of what was: the monitor is as power-on leaves it
+abbrev pub StartsAt : Stamp → Settings → Monitor → Monitor → Type 0
+StartsAt at stored m n = n ≡ startedWith (m .serial) (m .rating) stored at
+
+-- the starts: by reset, by a commit whether storage works or not, by silence
+pub record Starts (m : Monitor) : Type 0 where
+  pub reset : (at : Stamp) → StartsAt at (m .stored) m (wasReset at m .monitor)
+  pub stored : (at : Stamp) (draft : Settings) (f : Frame) → isCommit f ≡ true → StartsAt at draft m (inside draft at true f m .monitor)
+  pub failed : (at : Stamp) (draft : Settings) (f : Frame) → isCommit f ≡ true → StartsAt at (m .stored) m (inside draft at false f m .monitor)
+  pub silent : (s : Session) (at : Stamp) → m .phase ≡ InSession s → pastLimit (s .heard) 2000 at ≡ true → StartsAt (later (s .heard) 2000) (m .stored) m (woken at m)
+
+-- ---- after any history of events
+
+-- a reply is an extended frame on the identifier
+abbrev pub OnIdentifier : ℕ → Reply → Type 0
+OnIdentifier identifier r = r .sent ≡ true → (r .frame .extended ≡ true) × (r .frame .identifier ≡ identifier)
+
+pub record Holds (p : PowerOn) (h : List Event) : Type 0 where
+  -- it is still the same unit
+  pub serial : after p h .monitor .serial ≡ p .serial
+  pub rating : after p h .monitor .rating ≡ p .rating
+  -- the stored six are legal: a level is never 0, and a voltage never reaches the rating
+  pub legal : accepted (p .rating) (after p h .monitor .stored) ≡ true
+  pub warning : 1 ≤ after p h .monitor .stored .warning
+  pub fault : 1 ≤ after p h .monitor .stored .fault
+  pub voltage : after p h .monitor .stored .voltage < p .rating
+  -- "Every reply is on the transmit identifier stored before the event."
+  pub identifier : (e : Event) → OnIdentifier (after p h .monitor .stored .transmit) (step e (after p h .monitor) .reply)
+  -- the last start, silence counted, is not after the question, so that the uptime is a true difference
+  pub start : (at : Stamp) → after p h .last .0 ≤ at .0 → woken at (after p h .monitor) .start .0 ≤ at .0
+
+-- ---- the promise
+
+pub record Promise : Type 0 where
+  pub events : (e : Event) (b : Bench) → Handles e b
+  pub power-on : (p : PowerOn) → Answers (toldPowerOn (poweredOn (p .at) (p .serial) (p .rating) (p .settings))) (powerOnConditions p) on
+  pub uptime : (at : Stamp) (b : Bench) → Answers (toldUptime (uptimeAsked at b)) (uptimeConditions at b) (ticks ((at .0 - woken at (b .monitor) .start .0) / 10))
+  pub messages : (f : Frame) → Says f
+  pub right : RightMeans
+  pub negative : NegativeRefused
+  pub unheard : UnheardChangesNothing
+  pub starts : (m : Monitor) → Starts m
+  pub history : (p : PowerOn) → IsAccepted p → (h : List Event) → Holds p h
