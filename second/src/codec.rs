@@ -2,6 +2,7 @@
 //! was read or built. The quoted sentences are those of document 01; the
 //! table at the heart of this module is its table of reports.
 
+use crate::refusal::Refusal;
 use std::fmt;
 
 /// "the device on 0x0A100100, unless set otherwise"
@@ -11,8 +12,8 @@ pub const HOST_IDENTIFIER: u32 = 0x0A10_0101;
 
 /// Limits of refusal 1.
 const LONGEST: u8 = 8;
-const HIGHEST_EXTENDED: u32 = 0x1FFF_FFFF;
-const HIGHEST_STANDARD: u32 = 0x7FF;
+pub const HIGHEST_EXTENDED: u32 = 0x1FFF_FFFF;
+pub const HIGHEST_STANDARD: u32 = 0x7FF;
 
 /// The two device kinds.
 #[derive(Clone, Copy, Debug, PartialEq, Eq)]
@@ -36,25 +37,6 @@ pub struct Frame {
     pub length: u8,
     pub identifier: u32,
     pub bytes: [u8; 8],
-}
-
-/// "A refusal returns the number alone". Numbers 1 to 6 concern frames.
-#[derive(Clone, Copy, Debug, PartialEq, Eq)]
-pub enum Refusal {
-    /// "a frame's length is over 8, or its identifier over 0x1FFFFFFF
-    /// (extended) or 0x7FF (standard)"
-    OverLimits = 1,
-    /// "a report or request is not extended, or not on the expected identifier"
-    NotExpected = 2,
-    /// "length 0, or a multiplexer not listed for that device kind"
-    NotListed = 3,
-    /// "wrong length for the multiplexer"
-    WrongLength = 4,
-    /// "SIM100 report E0 to E5 with status bit 4 set, or status bits 1-0
-    /// equal to 01"
-    BadStatus = 5,
-    /// "a value to be built does not fit its field or breaks the rule of 5"
-    DoesNotFit = 6,
 }
 
 /// A report or request without its identifier: the multiplexer and every
@@ -249,7 +231,7 @@ pub fn listed_length(what: What, kind: Kind, multiplexer: u8) -> Option<u8> {
 
 /// Refusal 1: "a frame's length is over 8, or its identifier over 0x1FFFFFFF
 /// (extended) or 0x7FF (standard)".
-fn over_limits(frame: &Frame) -> bool {
+pub fn over_limits(frame: &Frame) -> bool {
     let highest = if frame.extended { HIGHEST_EXTENDED } else { HIGHEST_STANDARD };
     frame.length > LONGEST || frame.identifier > highest
 }
@@ -329,12 +311,6 @@ impl Which {
     /// The first multiplexer of the row; the only one, but for words.
     pub fn multiplexer(self) -> u8 {
         TABLE[self as usize].first
-    }
-}
-
-impl fmt::Display for Refusal {
-    fn fmt(&self, f: &mut fmt::Formatter) -> fmt::Result {
-        write!(f, "refused {}", *self as u8)
     }
 }
 

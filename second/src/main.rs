@@ -1,20 +1,35 @@
 //! The command line of the second program.
 
-mod cases;
 mod codec;
-mod inputs;
+mod codec_cases;
+mod codec_inputs;
+mod monitor;
+mod monitor_cases;
+#[cfg(test)]
+mod monitor_coverage;
+mod monitor_host;
+mod monitor_inputs;
+mod monitor_scenes;
+#[cfg(test)]
+mod monitor_tests;
+mod monitor_wander;
 mod random;
+mod refusal;
 
 use std::io::{self, BufWriter, Read, Write};
 use std::process::ExitCode;
 
-const USAGE: &str = "usage: second codec-inputs SEED COUNT   write COUNT records of cases
-       second codec-answers             answer the records on standard input";
+const USAGE: &str = "usage: second codec-inputs SEED COUNT   write COUNT records of codec cases
+       second codec-answers             answer the codec cases on standard input
+       second monitor-inputs SEED RUNS  write RUNS runs of monitor cases
+       second monitor-answers           answer the monitor cases on standard input";
 
 /// What the command line asks for.
 enum Command {
     CodecInputs { seed: u64, count: u64 },
     CodecAnswers,
+    MonitorInputs { seed: u64, runs: u64 },
+    MonitorAnswers,
 }
 
 fn command(arguments: &[String]) -> Option<Command> {
@@ -24,19 +39,28 @@ fn command(arguments: &[String]) -> Option<Command> {
             Some(Command::CodecInputs { seed: seed.parse().ok()?, count: count.parse().ok()? })
         }
         ["codec-answers"] => Some(Command::CodecAnswers),
+        ["monitor-inputs", seed, runs] => {
+            Some(Command::MonitorInputs { seed: seed.parse().ok()?, runs: runs.parse().ok()? })
+        }
+        ["monitor-answers"] => Some(Command::MonitorAnswers),
         _ => None,
     }
+}
+
+/// All of standard input.
+fn cases() -> io::Result<Vec<u8>> {
+    let mut cases = Vec::new();
+    io::stdin().lock().read_to_end(&mut cases)?;
+    Ok(cases)
 }
 
 fn run(command: &Command) -> io::Result<()> {
     let mut out = BufWriter::with_capacity(1 << 16, io::stdout().lock());
     match command {
-        Command::CodecInputs { seed, count } => inputs::write_all(*seed, *count, &mut out)?,
-        Command::CodecAnswers => {
-            let mut records = Vec::new();
-            io::stdin().lock().read_to_end(&mut records)?;
-            cases::answer_all(&records, &mut out)?;
-        }
+        Command::CodecInputs { seed, count } => codec_inputs::write_all(*seed, *count, &mut out)?,
+        Command::CodecAnswers => codec_cases::answer_all(&cases()?, &mut out)?,
+        Command::MonitorInputs { seed, runs } => monitor_inputs::write_all(*seed, *runs, &mut out)?,
+        Command::MonitorAnswers => monitor_cases::answer_all(&cases()?, &mut out)?,
     }
     out.flush()
 }

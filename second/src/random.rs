@@ -37,6 +37,12 @@ impl Random {
         (self.next() % limit as u64) as usize
     }
 
+    /// A number from `low` to `high`, both included; `low` is not above `high`
+    /// and they are not all numbers of 64 bits.
+    pub fn between(&mut self, low: u64, high: u64) -> u64 {
+        low + self.next() % (high - low + 1)
+    }
+
     /// True once in `n` on average.
     pub fn one_in(&mut self, n: usize) -> bool {
         self.below(n) == 0
@@ -64,6 +70,17 @@ mod tests {
         assert_eq!(random.next(), 6_457_827_717_110_365_317);
         assert_eq!(random.next(), 3_203_168_211_198_807_973);
         assert_eq!(random.next(), 9_817_491_932_198_370_423);
+    }
+
+    #[test]
+    fn between_gives_both_ends_and_no_more() {
+        let mut random = Random::new(1);
+        let mut met = [0; 5];
+        for _ in 0..100 {
+            met[random.between(1, 3) as usize] += 1;
+        }
+        assert_eq!((met[0], met[4]), (0, 0));
+        assert!(met[1] > 0 && met[2] > 0 && met[3] > 0);
     }
 
     #[test]

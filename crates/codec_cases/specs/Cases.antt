@@ -1,5 +1,5 @@
 -- The records of docs/CODEC_CASES.md: 20 bytes, one question each.
-use Prim.Native.Nat.{ℕ, _+_}
+use Prim.Native.Nat.{ℕ}
 use mathlib.Core.Bool.{Bool, cond, _&&_, _||_}
 use mathlib.Core.List.{List}
 use lib.Dec.{ltb, eqb}
@@ -68,7 +68,3 @@ requestAs which r =
 
 abbrev pub requestAsked : List ℕ → Request
 requestAsked r = requestAs (getD r 6 0) r
-
--- a line's digits: 0 to 9, A to F
-abbrev pub hexDigit : ℕ → ℕ
-hexDigit d = cond (ltb d 10) (48 + d) (55 + d)

@@ -1,6 +1,6 @@
 // Answers the questions of a cases file on standard input, a line for each: docs/CODEC_CASES.md has both formats.
 mod ask;
-mod show;
+mod line;
 
 use codec::build::build_report;
 use codec::build::build_request;
@@ -11,10 +11,10 @@ use codec::read::read_request;
 fn answer(r: [u8; 20]) {
     let what = r[0];
     match what {
-        0 => show::report(read_report(ask::kind(r), ask::identifier(r), ask::frame(r))),
-        1 => show::request(read_request(ask::kind(r), ask::identifier(r), ask::frame(r))),
-        2 => show::built(build_report(ask::kind(r), ask::identifier(r), ask::report(r))),
-        _ => show::built(build_request(ask::kind(r), ask::identifier(r), ask::request(r))),
+        0 => line::report(read_report(ask::kind(r), ask::identifier(r), ask::frame(r))),
+        1 => line::request(read_request(ask::kind(r), ask::identifier(r), ask::frame(r))),
+        2 => line::built(build_report(ask::kind(r), ask::identifier(r), ask::report(r))),
+        _ => line::built(build_request(ask::kind(r), ask::identifier(r), ask::request(r))),
     }
 }
 

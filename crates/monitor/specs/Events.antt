@@ -71,12 +71,16 @@ zeroStamp = record { 0 = 0 }
 abbrev pub benchAt : Stamp → Monitor → Bench
 benchAt at m = record { monitor = m; last = at }
 
--- 8. A refusal returns the number alone: the bench beside it is all zero
+-- what stands where no monitor is on
+abbrev pub noBench : Bench
+noBench = benchAt zeroStamp (startedWith (replicate 16 0) 0 zeroSettings zeroStamp)
+
+-- 8. A refusal returns the number alone: no monitor is on
 abbrev pub poweredOn : Stamp → List ℕ → ℕ → Settings → PoweredOn
 poweredOn at serial rating k =
     cond (accepted rating k)
     (record { answer = Accepted; bench = benchAt at (startedWith serial rating k at) })
-    (record { answer = Refused NotLegal; bench = benchAt zeroStamp (startedWith (replicate 16 0) 0 zeroSettings zeroStamp) })
+    (record { answer = Refused NotLegal; bench = noBench })
 
 -- ---- the uptime question
 

@@ -1,6 +1,6 @@
 // The monitor on the bench: with the last accepted stamp it gives the refusals. A refused call returns the bench it was given.
 ghost use mathlib.Core.Path.{_≡_};
-ghost use Rattle.monitor.specs.Events.{frameEvent, resetEvent, poweredOn, answeredTo, refusedBy, acceptedAt, uptimeAsked};
+ghost use Rattle.monitor.specs.Events.{frameEvent, resetEvent, noBench, poweredOn, answeredTo, refusedBy, acceptedAt, uptimeAsked};
 use crate::message::Reply;
 use crate::message::no_reply;
 use crate::setting::Settings;
@@ -22,7 +22,7 @@ pub struct Bench {
     last: Stamp,
 }
 
-// A power-on. Where it is refused, the bench is that of a monitor with everything zero.
+// A power-on. Where it is refused, there is no monitor.
 pub struct PoweredOn {
     pub answer: Answer,
     pub bench: Bench,
@@ -56,6 +56,24 @@ pub fn last_stamp(b: Bench) -> Stamp
 
 // ---- power-on
 
+// What stands where no monitor is on: everything is zero.
+pub fn no_bench() -> Bench
+    ensures { λ r. ⌜ r ≡ noBench ⌝ }
+{
+    let zero = Settings {
+        receive: 0,
+        transmit: 0,
+        speed: 0,
+        voltage: 0,
+        warning: 0,
+        fault: 0,
+    };
+    Bench {
+        monitor: start_with([0; 16], 0, zero, Stamp(0)),
+        last: Stamp(0),
+    }
+}
+
 pub fn power_on(at: Stamp, serial: [u8; 16], rating: u16, settings: Settings) -> PoweredOn
     ensures { λ r. ⌜ r ≡ poweredOn at serial rating settings ⌝ }
 {
@@ -69,20 +87,9 @@ pub fn power_on(at: Stamp, serial: [u8; 16], rating: u16, settings: Settings) ->
             },
         };
     }
-    let zero = Settings {
-        receive: 0,
-        transmit: 0,
-        speed: 0,
-        voltage: 0,
-        warning: 0,
-        fault: 0,
-    };
     PoweredOn {
         answer: Answer::Refused(Refusal::NotLegal),
-        bench: Bench {
-            monitor: start_with([0; 16], 0, zero, Stamp(0)),
-            last: Stamp(0),
-        },
+        bench: no_bench(),
     }
 }
 

@@ -1,6 +1,5 @@
 -- `monitor::bench::frame_event` meets its contract: refusals first. Assumes nothing.
 use mathlib.Core.Path.{sym, _∙_}
-use borrow.Author.Needs.{needs}
 use Rattle.monitor.proofs.bench.frame_event.Statement.{statement}
 use Rattle.monitor.proofs.bench.frame_event.Tie as tie
 
@@ -15,4 +14,4 @@ returns-3 c = rw (sym (c .before .before .before .before .before .over-limits .e
 
 pub frame-event-spec : {M : Type 1} → statement M
 frame-event-spec =
-    tie.close (tie.spec (λ c κs. search needs) (λ c κs. search needs) returns (λ c κs. search needs) (λ c κs. search needs) returns-2 (λ c κs. search needs) (λ c κs. search needs) returns-3)
+    tie.close (tie.spec (λ c κs. tt) (λ c κs. tt) returns (λ c κs. tt) (λ c κs. tt) returns-2 (λ c κs. tt) (λ c κs. tt) returns-3)

@@ -1,6 +1,5 @@
 -- `monitor::bench::reset_event` meets its contract: by whether the stamp is early. Assumes nothing.
 use mathlib.Core.Path.{sym, _∙_}
-use borrow.Author.Needs.{needs}
 use Rattle.monitor.proofs.bench.reset_event.Statement.{statement}
 use Rattle.monitor.proofs.bench.reset_event.Tie as tie
 
@@ -11,4 +10,4 @@ returns-2 : tie.Need-returns-2
 returns-2 c = rw (sym (c .before .before .before .is-earlier .ensures) ∙ c .before .before .if1 .left, c .accepted .ensures, c .before .reset .ensures)
 
 pub reset-event-spec : {M : Type 1} → statement M
-reset-event-spec = tie.close (tie.spec (λ c κs. search needs) (λ c κs. search needs) returns (λ c κs. search needs) (λ c κs. search needs) returns-2)
+reset-event-spec = tie.close (tie.spec (λ c κs. tt) (λ c κs. tt) returns (λ c κs. tt) (λ c κs. tt) returns-2)

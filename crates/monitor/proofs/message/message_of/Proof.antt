@@ -35,4 +35,4 @@ returns-7 c = rw (sym (c .before .before .before .before .before .before .before
 
 pub message-of-spec : {M : Type 1} → statement M
 message-of-spec =
-    tie.close (tie.spec (λ c κs. search needs) returns (λ c κs. search needs) returns-2 (λ c κs. search needs) returns-3 (λ c κs. search needs) (λ c. search needs) returns-4 (λ c. search needs) (λ c κs. search needs) (λ c κs. search needs) returns-5 (λ c. search needs) (λ c κs. search needs) (λ c. search needs) (λ c. search needs) (λ c. search needs) (λ c. search needs) (λ c κs. search needs) (λ c κs. search needs) returns-6 returns-7)
+    tie.close (tie.spec (λ c κs. tt) returns (λ c κs. tt) returns-2 (λ c κs. tt) returns-3 (λ c κs. tt) (λ c. search needs) returns-4 (λ c. search needs) (λ c κs. tt) (λ c κs. tt) returns-5 (λ c. search needs) (λ c κs. tt) (λ c. search needs) (λ c. search needs) (λ c. search needs) (λ c. search needs) (λ c κs. tt) (λ c κs. tt) returns-6 returns-7)

@@ -8,4 +8,4 @@ returns c = rw (c .reply-with .ensures, c .before .before .bytes32 .ensures, c .
 
 pub value-reply-spec : {M : Type 1} → statement M
 value-reply-spec =
-    tie.close (tie.spec (λ c κs. search needs) (λ c κs. search needs) (λ c. search needs) (λ c. search needs) (λ c. search needs) (λ c. search needs) (λ c κs. search needs) returns)
+    tie.close (tie.spec (λ c κs. tt) (λ c κs. tt) (λ c. search needs) (λ c. search needs) (λ c. search needs) (λ c. search needs) (λ c κs. tt) returns)

@@ -1,5 +1,4 @@
 -- `monitor::unit::commit` meets its contract: by whether storage works. Assumes nothing.
-use borrow.Author.Needs.{needs}
 use Rattle.monitor.proofs.unit.commit.Statement.{statement}
 use Rattle.monitor.proofs.unit.commit.Tie as tie
 
@@ -10,4 +9,4 @@ returns-2 : tie.Need-returns-2
 returns-2 c = rw (c .before .before .if1 .left, c .before .start-again2 .ensures, c .nak-reply .ensures)
 
 pub commit-spec : {M : Type 1} → statement M
-commit-spec = tie.close (tie.spec (λ c κs. search needs) (λ c κs. search needs) returns (λ c κs. search needs) (λ c κs. search needs) returns-2)
+commit-spec = tie.close (tie.spec (λ c κs. tt) (λ c κs. tt) returns (λ c κs. tt) (λ c κs. tt) returns-2)

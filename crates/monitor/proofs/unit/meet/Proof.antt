@@ -12,4 +12,4 @@ returns-2 : tie.Need-returns-2
 returns-2 c = c .meet-inside .ensures ∙ ap (λ p. metBy p (c .before .before .before .before .args .at) (c .before .before .before .before .args .storing) (c .before .before .before .before .args .f) (c .before .before .before .before .args .m)) (sym (c .before .before .phase2 .given .1))
 
 pub meet-spec : {M : Type 1} → statement M
-meet-spec = tie.close (tie.spec (λ c. search needs) (λ c κs. search needs) (λ c. search needs) (λ c κs. search needs) returns returns-2)
+meet-spec = tie.close (tie.spec (λ c. search needs) (λ c κs. tt) (λ c. search needs) (λ c κs. tt) returns returns-2)

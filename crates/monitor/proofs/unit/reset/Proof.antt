@@ -1,5 +1,4 @@
 -- `monitor::unit::reset` meets its contract: a start. Assumes nothing.
-use borrow.Author.Needs.{needs}
 use Rattle.monitor.proofs.unit.reset.Statement.{statement}
 use Rattle.monitor.proofs.unit.reset.Tie as tie
 
@@ -7,4 +6,4 @@ returns : tie.Need-returns
 returns c = rw (c .before .start-again .ensures, c .no-reply .ensures)
 
 pub reset-spec : {M : Type 1} → statement M
-reset-spec = tie.close (tie.spec (λ c κs. search needs) (λ c κs. search needs) returns)
+reset-spec = tie.close (tie.spec (λ c κs. tt) (λ c κs. tt) returns)

@@ -16,4 +16,4 @@ returns-3 c = rw (c .before .before .before .phase .given .1, sym (c .before .pa
 
 pub wake-spec : {M : Type 1} → statement M
 wake-spec =
-    tie.close (tie.spec (λ c. search needs) (λ c. search needs) (λ c κs. search needs) add-t8 (λ c κs. search needs) returns (λ c. search needs) returns-3)
+    tie.close (tie.spec (λ c. search needs) (λ c. search needs) (λ c κs. tt) add-t8 (λ c κs. tt) returns (λ c. search needs) returns-3)

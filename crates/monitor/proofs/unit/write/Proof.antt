@@ -1,6 +1,5 @@
 -- `monitor::unit::write` meets its contract: by whether the value is legal. Assumes nothing.
 use mathlib.Core.Path.{sym, _∙_}
-use borrow.Author.Needs.{needs}
 use Rattle.monitor.proofs.unit.write.Statement.{statement}
 use Rattle.monitor.proofs.unit.write.Tie as tie
 
@@ -12,4 +11,4 @@ returns-2 c = rw (sym (c .before .before .before .is-legal .ensures) ∙ c .befo
 
 pub write-spec : {M : Type 1} → statement M
 write-spec =
-    tie.close (tie.spec (λ c κs. search needs) (λ c κs. search needs) (λ c κs. search needs) (λ c κs. search needs) returns (λ c κs. search needs) (λ c κs. search needs) returns-2)
+    tie.close (tie.spec (λ c κs. tt) (λ c κs. tt) (λ c κs. tt) (λ c κs. tt) returns (λ c κs. tt) (λ c κs. tt) returns-2)

@@ -3,10 +3,10 @@
 //! same kinds for each seed, only their free bytes follow the seed. After them
 //! come random ones, most of them nearly right.
 
-use crate::cases::{encode, first_is_16_bits, second_is_16_bits, Question, Task, Values};
 use crate::codec::{
     listed_length, Frame, Kind, What, Which, ALL_WHICH, DEVICE_IDENTIFIER, HOST_IDENTIFIER,
 };
+use crate::codec_cases::{encode, first_is_16_bits, second_is_16_bits, Question, Task, Values};
 use crate::random::Random;
 use std::io::{self, Write};
 
@@ -982,7 +982,7 @@ pub fn write_all(seed: u64, count: u64, out: &mut impl Write) -> io::Result<()> 
 #[cfg(test)]
 mod tests {
     use super::*;
-    use crate::cases::{answer_all, decode, RECORD};
+    use crate::codec_cases::{answer_all, decode, RECORD};
     use std::collections::BTreeSet;
 
     fn inputs(seed: u64, count: u64) -> Vec<u8> {
@@ -1094,7 +1094,7 @@ mod tests {
         let mut met = BTreeSet::new();
         for question in systematic(5) {
             let reading = matches!(question.task, Task::Read(_));
-            let line = crate::cases::line(&question);
+            let line = crate::codec_cases::line(&question);
             let words: Vec<&str> = line.split(' ').collect();
             let answer = match words[0] {
                 "refused" => line.clone(),

@@ -1,10 +1,6 @@
 // Answers as lines of text.
-ghost use mathlib.Core.Path.{_≡_};
-ghost use Prim.Native.Nat.{_%_};
-ghost use Rattle.codec_cases.specs.Cases.{hexDigit};
 use codec::frame::Answer;
 use codec::frame::Built;
-use codec::frame::Frame;
 use codec::report::Battery;
 use codec::report::ErrorFlags;
 use codec::report::Estimates;
@@ -13,32 +9,12 @@ use codec::report::ReportReading;
 use codec::report::Voltages;
 use codec::request::Request;
 use codec::request::RequestReading;
-use refusal::Refusal;
-use words::Order;
+use show::frame;
+use show::hex;
+use show::refused;
+use show::text;
+use show::value;
 use words::twos::pattern32;
-use words::word::bytes32;
-
-fn text(s: &[u8]) {
-    io::write_all(1, s);
-}
-
-// The last hexadecimal digit of a number.
-fn hex_digit(n: u8) -> u8
-    ensures { λ r. ⌜ r ≡ hexDigit (n % 16) ⌝ }
-{
-    let d = n % 16;
-    let small = d < 10;
-    if small { 48 + d } else { 55 + d }
-}
-
-fn hex(b: u8) {
-    text(&[hex_digit(b / 16), hex_digit(b)]);
-}
-
-fn value(n: u64) {
-    text(b" ");
-    io::print_decimal(1, n);
-}
 
 fn signed(z: i32) {
     if z < 0 {
@@ -47,11 +23,6 @@ fn signed(z: i32) {
     } else {
         value(pattern32(z) as u64);
     }
-}
-
-fn refused(why: Refusal) {
-    text(b"refused");
-    value(refusal::number(why) as u64);
 }
 
 fn estimates(e: Estimates) {
@@ -155,39 +126,6 @@ pub fn request(r: RequestReading) {
         RequestReading::Refused(why) => refused(why),
     }
     text(b"\n");
-}
-
-fn spaced(b: u8) {
-    text(b" ");
-    hex(b);
-}
-
-// Eight digits of an extended identifier. No built frame is standard: three would show that one is.
-fn identifier(f: Frame) {
-    let b = bytes32(Order::Big, f.identifier);
-    if f.extended {
-        hex(b[0]);
-        hex(b[1]);
-        hex(b[2]);
-        hex(b[3]);
-    } else {
-        text(&[hex_digit(b[2])]);
-        hex(b[3]);
-    }
-}
-
-fn frame(f: Frame) {
-    identifier(f);
-    value(f.length as u64);
-    let b = f.bytes;
-    spaced(b[0]);
-    spaced(b[1]);
-    spaced(b[2]);
-    spaced(b[3]);
-    spaced(b[4]);
-    spaced(b[5]);
-    spaced(b[6]);
-    spaced(b[7]);
 }
 
 pub fn built(b: Built) {

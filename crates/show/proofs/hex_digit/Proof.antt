@@ -1,7 +1,7 @@
--- `codec_cases::show::hex_digit` meets its contract: by the test. Assumes nothing.
+-- `show::hex_digit` meets its contract: by the test. Assumes nothing.
 use borrow.Author.Needs.{needs}
-use Rattle.codec_cases.proofs.show.hex_digit.Statement.{statement}
-use Rattle.codec_cases.proofs.show.hex_digit.Tie as tie
+use Rattle.show.proofs.hex_digit.Statement.{statement}
+use Rattle.show.proofs.hex_digit.Tie as tie
 
 returns : tie.Need-returns
 returns c = rw (c .if1 .taken)

@@ -1,0 +1,2 @@
+-- What is shown: hexadecimal digits.
+pub mod Digits

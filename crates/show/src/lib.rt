@@ -1,0 +1,78 @@
+// Numbers, frames and refusals as text on standard output, the way the programs that answer cases print them.
+ghost use mathlib.Core.Path.{_≡_};
+ghost use Prim.Native.Nat.{_%_};
+ghost use Rattle.show.specs.Digits.{hexDigit};
+use codec::frame::Frame;
+use refusal::Refusal;
+use words::Order;
+use words::word::bytes32;
+
+pub fn text(s: &[u8]) {
+    io::write_all(1, s);
+}
+
+// The last hexadecimal digit of a number.
+pub fn hex_digit(n: u8) -> u8
+    ensures { λ r. ⌜ r ≡ hexDigit (n % 16) ⌝ }
+{
+    let d = n % 16;
+    let small = d < 10;
+    if small { 48 + d } else { 55 + d }
+}
+
+// A byte in two hexadecimal digits.
+pub fn hex(b: u8) {
+    text(&[hex_digit(b / 16), hex_digit(b)]);
+}
+
+// A number of 32 bits in eight.
+pub fn hex32(n: u32) {
+    let b = bytes32(Order::Big, n);
+    hex(b[0]);
+    hex(b[1]);
+    hex(b[2]);
+    hex(b[3]);
+}
+
+// A decimal number after one space.
+pub fn value(n: u64) {
+    text(b" ");
+    io::print_decimal(1, n);
+}
+
+// A byte after one space.
+pub fn spaced(b: u8) {
+    text(b" ");
+    hex(b);
+}
+
+pub fn refused(why: Refusal) {
+    text(b"refused");
+    value(refusal::number(why) as u64);
+}
+
+// Eight digits of an extended identifier. No frame that is sent is standard: three would show that one is.
+fn identifier(f: Frame) {
+    if f.extended {
+        hex32(f.identifier);
+    } else {
+        let b = bytes32(Order::Big, f.identifier);
+        text(&[hex_digit(b[2])]);
+        hex(b[3]);
+    }
+}
+
+// The identifier, the length and all eight bytes, those past the length too.
+pub fn frame(f: Frame) {
+    identifier(f);
+    value(f.length as u64);
+    let b = f.bytes;
+    spaced(b[0]);
+    spaced(b[1]);
+    spaced(b[2]);
+    spaced(b[3]);
+    spaced(b[4]);
+    spaced(b[5]);
+    spaced(b[6]);
+    spaced(b[7]);
+}
