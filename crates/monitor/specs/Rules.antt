@@ -54,54 +54,72 @@ wokenBy (InSession s) at m = cond (pastLimit (s .heard) 2000 at) (started (later
 abbrev pub woken : Stamp → Monitor → Monitor
 woken at m = wokenBy (m .phase) at m
 
+-- ---- what an event may leave
+
+-- no reply, and nothing changes
+abbrev pub ignored : Monitor → Turn
+ignored m = turn m quiet
+
+-- "NAK, nothing pending"
+abbrev pub givenUp : Monitor → Turn
+givenUp m = turn (inPhase (Outside Nothing) m) (nak (transmitId m))
+
+abbrev pub sessionAt : Stamp → Settings → Phase
+sessionAt at draft = InSession (record { heard = at; draft = draft })
+
+-- "every heard frame, of any length or content, restarts the 2,000 ms"
+abbrev pub goesOn : Stamp → Settings → Reply → Monitor → Turn
+goesOn at draft reply m = turn (inPhase (sessionAt at draft) m) reply
+
 -- ---- outside a session
 
 -- "At most 10,000 ms after the last start: the challenge [..], now pending from this stamp, replacing any other. Later: NAK,
 -- nothing pending."
 abbrev pub unlocked : Stamp → Monitor → Turn
 unlocked at m =
-    cond (pastLimit (m .start) 10000 at)
-    (turn (inPhase (Outside Nothing) m) (nak (transmitId m)))
+    cond (pastLimit (m .start) 10000 at) (givenUp m)
     (turn (inPhase (Outside (Since at)) m) (challenged (transmitId m) (m .serial)))
-
-abbrev pub sessionAt : Stamp → Settings → Phase
-sessionAt at draft = InSession (record { heard = at; draft = draft })
 
 -- "Nothing pending: no reply. Right and at most 2,000 ms after the challenge: ACK, session open, draft equal to stored. Wrong or
 -- late: NAK, nothing pending, no restart."
 abbrev pub answered : Pending → Stamp → Frame → Monitor → Turn
-answered Nothing at f m = turn m quiet
+answered Nothing at f m = ignored m
 answered (Since since) at f m =
     cond (isRight (m .serial) f && not (pastLimit since 2000 at))
-    (turn (inPhase (sessionAt at (m .stored)) m) (ack (transmitId m)))
-    (turn (inPhase (Outside Nothing) m) (nak (transmitId m)))
+    (goesOn at (m .stored) (ack (transmitId m)) m)
+    (givenUp m)
 
--- "Outside a session a request 08 to 0B of length 1 or 3 gets its serial word [..]. All else, F0 included, gets no reply. None of these
--- requests, answered or not, touches a pending challenge"
+-- "Outside a session a request 08 to 0B of length 1 or 3 gets its serial word"
+abbrev pub serialAsked : ℕ → Monitor → Turn
+serialAsked mux m = turn m (serialReport (transmitId m) (m .serial) mux)
+
+-- "All else, F0 included, gets no reply. None of these requests, answered or not, touches a pending challenge"
 abbrev pub outsideBy : Message → Pending → Stamp → Frame → Monitor → Turn
 outsideBy Unlock pending at f m = unlocked at m
 outsideBy Answer pending at f m = answered pending at f m
-outsideBy (SerialRequest mux) pending at f m = turn m (serialReport (transmitId m) (m .serial) mux)
-outsideBy (Read s) pending at f m = turn m quiet
-outsideBy (Write s v) pending at f m = turn m quiet
-outsideBy Commit pending at f m = turn m quiet
-outsideBy Other pending at f m = turn m quiet
+outsideBy (SerialRequest mux) pending at f m = serialAsked mux m
+outsideBy (Read s) pending at f m = ignored m
+outsideBy (Write s v) pending at f m = ignored m
+outsideBy Commit pending at f m = ignored m
+outsideBy Other pending at f m = ignored m
 
 abbrev pub outside : Pending → Stamp → Frame → Monitor → Turn
 outside pending at f m = outsideBy (message f) pending at f m
 
 -- ---- in a session
 
--- "every heard frame, of any length or content, restarts the 2,000 ms"
-abbrev pub goesOn : Stamp → Settings → Reply → Monitor → Turn
-goesOn at draft reply m = turn (inPhase (sessionAt at draft) m) reply
+-- "NAK, session goes on"
+abbrev pub refused : Stamp → Settings → Monitor → Turn
+refused at draft m = goesOn at draft (nak (transmitId m)) m
+
+-- "Read [..]: reply of length 5, the code and the draft value"
+abbrev pub wasRead : Setting → Stamp → Settings → Monitor → Turn
+wasRead s at draft m = goesOn at draft (shown (transmitId m) s (valueOf draft s)) m
 
 -- "Write [..]: ACK and draft changed if legal, else NAK."
 abbrev pub written : Setting → ℕ → Stamp → Settings → Monitor → Turn
 written s v at draft m =
-    cond (legal (m .rating) s v)
-    (goesOn at (withValue draft s v) (ack (transmitId m)) m)
-    (goesOn at draft (nak (transmitId m)) m)
+    cond (legal (m .rating) s v) (goesOn at (withValue draft s v) (ack (transmitId m)) m) (refused at draft m)
 
 -- "Commit [..]: storage works, draft stored, ACK; otherwise NAK, stored unchanged. Either way the monitor starts again at this
 -- stamp."
@@ -111,13 +129,13 @@ committed false at draft m = turn (started at (m .stored) m) (nak (transmitId m)
 
 -- "Anything else, unlock and answer included: NAK, session goes on"
 abbrev pub insideBy : Message → Settings → Stamp → Bool → Monitor → Turn
-insideBy (Read s) draft at storing m = goesOn at draft (shown (transmitId m) s (valueOf draft s)) m
+insideBy (Read s) draft at storing m = wasRead s at draft m
 insideBy (Write s v) draft at storing m = written s v at draft m
 insideBy Commit draft at storing m = committed storing at draft m
-insideBy Unlock draft at storing m = goesOn at draft (nak (transmitId m)) m
-insideBy Answer draft at storing m = goesOn at draft (nak (transmitId m)) m
-insideBy (SerialRequest mux) draft at storing m = goesOn at draft (nak (transmitId m)) m
-insideBy Other draft at storing m = goesOn at draft (nak (transmitId m)) m
+insideBy Unlock draft at storing m = refused at draft m
+insideBy Answer draft at storing m = refused at draft m
+insideBy (SerialRequest mux) draft at storing m = refused at draft m
+insideBy Other draft at storing m = refused at draft m
 
 abbrev pub inside : Settings → Stamp → Bool → Frame → Monitor → Turn
 inside draft at storing f m = insideBy (message f) draft at storing m
@@ -138,14 +156,14 @@ met at storing f m = metBy (m .phase) at storing f m
 
 -- "Frames not heard get no reply."
 abbrev pub frameMet : Stamp → Bool → Frame → Monitor → Turn
-frameMet at storing f w = cond (heard f w) (met at storing f w) (turn w quiet)
+frameMet at storing f w = cond (heard f w) (met at storing f w) (ignored w)
 
 abbrev pub framed : Stamp → Bool → Frame → Monitor → Turn
 framed at storing f m = frameMet at storing f (woken at m)
 
 -- "A reset event starts the monitor again at its stamp, with no reply and stored settings kept."
 abbrev pub wasReset : Stamp → Monitor → Turn
-wasReset at m = turn (started at (m .stored) m) quiet
+wasReset at m = ignored (started at (m .stored) m)
 
 -- "ticks of ten milliseconds since the last start, rounded down, silence counted"
 abbrev pub uptimeOf : Stamp → Monitor → Ticks

@@ -3,18 +3,22 @@ ghost use mathlib.Core.Path.{_≡_};
 ghost use Rattle.monitor.specs.Rules.{
   turn,
   inPhase,
-  started,
   startedWith,
+  started,
   woken,
-  heard,
-  unlocked,
-  sessionAt,
-  answered,
-  outside,
+  ignored,
+  givenUp,
   goesOn,
+  unlocked,
+  answered,
+  serialAsked,
+  outside,
+  refused,
+  wasRead,
   written,
   committed,
   inside,
+  heard,
   met,
   framed,
   wasReset,
@@ -146,6 +150,45 @@ fn wake(m: Monitor, at: Stamp) -> Monitor
     }
 }
 
+// ---- what an event may leave
+
+// No reply, and nothing changes.
+fn ignore(m: Monitor) -> Turn
+    ensures { λ r. ⌜ r ≡ ignored m ⌝ }
+{
+    Turn {
+        monitor: m,
+        reply: no_reply(),
+    }
+}
+
+fn move_to(m: Monitor, phase: Phase, reply: Reply) -> Turn
+    ensures { λ r. ⌜ r ≡ turn (inPhase phase m) reply ⌝ }
+{
+    Turn {
+        monitor: with_phase(m, phase),
+        reply,
+    }
+}
+
+// NAK, and nothing is pending.
+fn give_up(m: Monitor) -> Turn
+    ensures { λ r. ⌜ r ≡ givenUp m ⌝ }
+{
+    move_to(
+        m,
+        Phase::Outside(Pending::Nothing),
+        nak_reply(m.stored.transmit),
+    )
+}
+
+// A session with this draft; the 2,000 ms run from here.
+fn go_on(m: Monitor, draft: Settings, at: Stamp, reply: Reply) -> Turn
+    ensures { λ r. ⌜ r ≡ goesOn at draft reply m ⌝ }
+{
+    move_to(m, Phase::InSession(Session { heard: at, draft }), reply)
+}
+
 // ---- outside a session
 
 fn unlock(m: Monitor, at: Stamp) -> Turn
@@ -153,90 +196,75 @@ fn unlock(m: Monitor, at: Stamp) -> Turn
 {
     let late = past_limit(m.start, 10000, at);
     if late {
-        return Turn {
-            monitor: with_phase(m, Phase::Outside(Pending::Nothing)),
-            reply: nak_reply(m.stored.transmit),
-        };
+        return give_up(m);
     }
     let serial = m.serial;
-    Turn {
-        monitor: with_phase(m, Phase::Outside(Pending::Since(at))),
-        reply: challenge_reply(m.stored.transmit, serial),
-    }
-}
-
-fn session_at(at: Stamp, draft: Settings) -> Phase
-    ensures { λ r. ⌜ r ≡ sessionAt at draft ⌝ }
-{
-    Phase::InSession(Session { heard: at, draft })
+    move_to(
+        m,
+        Phase::Outside(Pending::Since(at)),
+        challenge_reply(m.stored.transmit, serial),
+    )
 }
 
 fn answer(m: Monitor, pending: Pending, at: Stamp, f: Frame) -> Turn
     ensures { λ r. ⌜ r ≡ answered pending at f m ⌝ }
 {
     match pending {
-        Pending::Nothing => Turn {
-            monitor: m,
-            reply: no_reply(),
-        },
+        Pending::Nothing => ignore(m),
         Pending::Since(since) => {
             let serial = m.serial;
             let good = is_right(serial, f) & !past_limit(since, 2000, at);
             if good {
-                return Turn {
-                    monitor: with_phase(m, session_at(at, m.stored)),
-                    reply: ack_reply(m.stored.transmit),
-                };
+                return go_on(m, m.stored, at, ack_reply(m.stored.transmit));
             }
-            Turn {
-                monitor: with_phase(m, Phase::Outside(Pending::Nothing)),
-                reply: nak_reply(m.stored.transmit),
-            }
+            give_up(m)
         }
+    }
+}
+
+fn serial_request(m: Monitor, mux: u8) -> Turn
+    ensures { λ r. ⌜ r ≡ serialAsked mux m ⌝ }
+{
+    let serial = m.serial;
+    Turn {
+        monitor: m,
+        reply: serial_reply(m.stored.transmit, serial, mux),
     }
 }
 
 fn meet_outside(m: Monitor, pending: Pending, at: Stamp, f: Frame) -> Turn
     ensures { λ r. ⌜ r ≡ outside pending at f m ⌝ }
 {
-    let serial = m.serial;
     let message = message_of(f);
     match message {
         Message::Unlock => unlock(m, at),
         Message::Answer => answer(m, pending, at, f),
-        Message::SerialRequest(mux) => Turn {
-            monitor: m,
-            reply: serial_reply(m.stored.transmit, serial, mux),
-        },
-        Message::Read(_) => Turn {
-            monitor: m,
-            reply: no_reply(),
-        },
-        Message::Write(_, _) => Turn {
-            monitor: m,
-            reply: no_reply(),
-        },
-        Message::Commit => Turn {
-            monitor: m,
-            reply: no_reply(),
-        },
-        Message::Other => Turn {
-            monitor: m,
-            reply: no_reply(),
-        },
+        Message::SerialRequest(mux) => serial_request(m, mux),
+        Message::Read(_) => ignore(m),
+        Message::Write(_, _) => ignore(m),
+        Message::Commit => ignore(m),
+        Message::Other => ignore(m),
     }
 }
 
 // ---- in a session
 
-// The session goes on with this draft; the 2,000 ms run from here.
-fn go_on(m: Monitor, draft: Settings, at: Stamp, reply: Reply) -> Turn
-    ensures { λ r. ⌜ r ≡ goesOn at draft reply m ⌝ }
+// NAK, and the session goes on.
+fn refuse(m: Monitor, draft: Settings, at: Stamp) -> Turn
+    ensures { λ r. ⌜ r ≡ refused at draft m ⌝ }
 {
-    Turn {
-        monitor: with_phase(m, session_at(at, draft)),
-        reply,
-    }
+    go_on(m, draft, at, nak_reply(m.stored.transmit))
+}
+
+fn read(m: Monitor, draft: Settings, at: Stamp, setting: Setting) -> Turn
+    ensures { λ r. ⌜ r ≡ wasRead setting at draft m ⌝ }
+{
+    go_on(
+        m,
+        draft,
+        at,
+        value_reply(m.stored.transmit, setting, value_of(draft, setting)),
+    )
 }
 
 fn write(m: Monitor, draft: Settings, at: Stamp, setting: Setting, value: u32) -> Turn
@@ -251,21 +279,22 @@ fn write(m: Monitor, draft: Settings, at: Stamp, setting: Setting, value: u32) -
             ack_reply(m.stored.transmit),
         );
     }
-    go_on(m, draft, at, nak_reply(m.stored.transmit))
+    refuse(m, draft, at)
 }
 
 fn commit(m: Monitor, draft: Settings, at: Stamp, storing: bool) -> Turn
     ensures { λ r. ⌜ r ≡ committed storing at draft m ⌝ }
 {
+    let transmit = m.stored.transmit;
     if storing {
         return Turn {
             monitor: start_again(m, draft, at),
-            reply: ack_reply(m.stored.transmit),
+            reply: ack_reply(transmit),
         };
     }
     Turn {
         monitor: start_again(m, m.stored, at),
-        reply: nak_reply(m.stored.transmit),
+        reply: nak_reply(transmit),
     }
 }
 
@@ -274,20 +303,13 @@ fn meet_inside(m: Monitor, draft: Settings, at: Stamp, storing: bool, f: Frame) 
 {
     let message = message_of(f);
     match message {
-        Message::Read(setting) => {
-            go_on(
-                m,
-                draft,
-                at,
-                value_reply(m.stored.transmit, setting, value_of(draft, setting)),
-            )
-        }
+        Message::Read(setting) => read(m, draft, at, setting),
         Message::Write(setting, value) => write(m, draft, at, setting, value),
         Message::Commit => commit(m, draft, at, storing),
-        Message::Unlock => go_on(m, draft, at, nak_reply(m.stored.transmit)),
-        Message::Answer => go_on(m, draft, at, nak_reply(m.stored.transmit)),
-        Message::SerialRequest(_) => go_on(m, draft, at, nak_reply(m.stored.transmit)),
-        Message::Other => go_on(m, draft, at, nak_reply(m.stored.transmit)),
+        Message::Unlock => refuse(m, draft, at),
+        Message::Answer => refuse(m, draft, at),
+        Message::SerialRequest(_) => refuse(m, draft, at),
+        Message::Other => refuse(m, draft, at),
     }
 }
 
@@ -318,19 +340,13 @@ pub fn frame(m: Monitor, at: Stamp, storing: bool, f: Frame) -> Turn
     if h {
         return meet(w, at, storing, f);
     }
-    Turn {
-        monitor: w,
-        reply: no_reply(),
-    }
+    ignore(w)
 }
 
 pub fn reset(m: Monitor, at: Stamp) -> Turn
     ensures { λ r. ⌜ r ≡ wasReset at m ⌝ }
 {
-    Turn {
-        monitor: start_again(m, m.stored, at),
-        reply: no_reply(),
-    }
+    ignore(start_again(m, m.stored, at))
 }
 
 // The uptime at a stamp: the ticks since the last start, silence counted.

@@ -5,7 +5,7 @@ use Rattle.monitor.proofs.unit.meet_inside.Statement.{statement}
 use Rattle.monitor.proofs.unit.meet_inside.Tie as tie
 
 returns : tie.Need-returns
-returns c = rw (sym (c .before .before .before .before .before .before .message-of .ensures) ∙ c .before .before .before .before .message .given .1, c .go-on .ensures, c .before .value-reply .ensures, c .before .before .value-of .ensures)
+returns c = rw (sym (c .before .before .before .before .message-of .ensures) ∙ c .before .before .message .given .1) (c .read .ensures)
 
 returns-2 : tie.Need-returns-2
 returns-2 c = rw (sym (c .before .before .before .before .message-of .ensures) ∙ c .before .before .message2 .given .1) (c .write .ensures)
@@ -14,17 +14,17 @@ returns-3 : tie.Need-returns-3
 returns-3 c = rw (sym (c .before .before .before .message-of .ensures) ∙ c .before .enum-told .given .1) (c .commit .ensures)
 
 returns-4 : tie.Need-returns-4
-returns-4 c = rw (sym (c .before .before .before .before .message-of .ensures) ∙ c .before .before .enum-told2 .given .1, c .go-on2 .ensures, c .before .nak-reply .ensures)
+returns-4 c = rw (sym (c .before .before .before .message-of .ensures) ∙ c .before .enum-told2 .given .1) (c .refuse .ensures)
 
 returns-5 : tie.Need-returns-5
-returns-5 c = rw (sym (c .before .before .before .before .message-of .ensures) ∙ c .before .before .enum-told3 .given .1, c .go-on3 .ensures, c .before .nak-reply2 .ensures)
+returns-5 c = rw (sym (c .before .before .before .message-of .ensures) ∙ c .before .enum-told3 .given .1) (c .refuse2 .ensures)
 
 returns-6 : tie.Need-returns-6
-returns-6 c = rw (sym (c .before .before .before .before .message-of .ensures) ∙ c .before .before .enum-told4 .given .1, c .go-on4 .ensures, c .before .nak-reply3 .ensures)
+returns-6 c = rw (sym (c .before .before .before .message-of .ensures) ∙ c .before .enum-told4 .given .1) (c .refuse3 .ensures)
 
 returns-7 : tie.Need-returns-7
-returns-7 c = rw (sym (c .before .before .before .before .message-of .ensures) ∙ c .before .before .enum-told5 .given .1, c .go-on5 .ensures, c .before .nak-reply4 .ensures)
+returns-7 c = rw (sym (c .before .before .before .message-of .ensures) ∙ c .before .enum-told5 .given .1) (c .refuse4 .ensures)
 
 pub meet-inside-spec : {M : Type 1} → statement M
 meet-inside-spec =
-    tie.close (tie.spec (λ c κs. tt) (λ c. search needs) (λ c κs. tt) (λ c κs. tt) (λ c κs. tt) (λ c. search needs) (λ c κs. tt) (λ c. search needs) (λ c κs. tt) (λ c. search needs) (λ c κs. tt) (λ c κs. tt) (λ c. search needs) (λ c κs. tt) (λ c κs. tt) (λ c. search needs) (λ c κs. tt) (λ c κs. tt) (λ c. search needs) (λ c κs. tt) (λ c κs. tt) returns returns-2 returns-3 returns-4 returns-5 returns-6 returns-7)
+    tie.close (tie.spec (λ c κs. tt) (λ c. search needs) (λ c κs. tt) (λ c. search needs) (λ c κs. tt) (λ c. search needs) (λ c κs. tt) (λ c. search needs) (λ c κs. tt) (λ c. search needs) (λ c κs. tt) (λ c. search needs) (λ c κs. tt) (λ c. search needs) (λ c κs. tt) returns returns-2 returns-3 returns-4 returns-5 returns-6 returns-7)

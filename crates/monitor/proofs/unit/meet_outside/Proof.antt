@@ -11,19 +11,19 @@ returns-2 : tie.Need-returns-2
 returns-2 c = rw (sym (c .before .before .before .message-of .ensures) ∙ c .before .enum-told2 .given .1) (c .answer .ensures)
 
 returns-3 : tie.Need-returns-3
-returns-3 c = rw (sym (c .before .before .before .before .message-of .ensures) ∙ c .before .before .message .given .1, c .serial-reply .ensures)
+returns-3 c = rw (sym (c .before .before .before .before .message-of .ensures) ∙ c .before .before .message .given .1) (c .serial-request .ensures)
 
 returns-4 : tie.Need-returns-4
-returns-4 c = rw (sym (c .before .before .before .message-of .ensures) ∙ c .before .enum-told3 .given .1, c .no-reply .ensures)
+returns-4 c = rw (sym (c .before .before .before .message-of .ensures) ∙ c .before .enum-told3 .given .1) (c .ignore .ensures)
 
 returns-5 : tie.Need-returns-5
-returns-5 c = rw (sym (c .before .before .before .message-of .ensures) ∙ c .before .enum-told4 .given .1, c .no-reply2 .ensures)
+returns-5 c = rw (sym (c .before .before .before .message-of .ensures) ∙ c .before .enum-told4 .given .1) (c .ignore2 .ensures)
 
 returns-6 : tie.Need-returns-6
-returns-6 c = rw (sym (c .before .before .before .message-of .ensures) ∙ c .before .enum-told5 .given .1, c .no-reply3 .ensures)
+returns-6 c = rw (sym (c .before .before .before .message-of .ensures) ∙ c .before .enum-told5 .given .1) (c .ignore3 .ensures)
 
 returns-7 : tie.Need-returns-7
-returns-7 c = rw (sym (c .before .before .before .message-of .ensures) ∙ c .before .enum-told6 .given .1, c .no-reply4 .ensures)
+returns-7 c = rw (sym (c .before .before .before .message-of .ensures) ∙ c .before .enum-told6 .given .1) (c .ignore4 .ensures)
 
 pub meet-outside-spec : {M : Type 1} → statement M
 meet-outside-spec =

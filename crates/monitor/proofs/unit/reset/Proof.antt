@@ -3,7 +3,7 @@ use Rattle.monitor.proofs.unit.reset.Statement.{statement}
 use Rattle.monitor.proofs.unit.reset.Tie as tie
 
 returns : tie.Need-returns
-returns c = rw (c .before .start-again .ensures, c .no-reply .ensures)
+returns c = rw (c .ignore .ensures, c .before .start-again .ensures)
 
 pub reset-spec : {M : Type 1} → statement M
 reset-spec = tie.close (tie.spec (λ c κs. tt) (λ c κs. tt) returns)

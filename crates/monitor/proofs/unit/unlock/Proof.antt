@@ -4,11 +4,10 @@ use Rattle.monitor.proofs.unit.unlock.Statement.{statement}
 use Rattle.monitor.proofs.unit.unlock.Tie as tie
 
 returns : tie.Need-returns
-returns c = rw (sym (c .before .before .before .past-limit .ensures) ∙ c .before .before .if1 .taken, c .before .with-phase .ensures, c .nak-reply .ensures)
+returns c = rw (sym (c .before .before .past-limit .ensures) ∙ c .before .if1 .taken) (c .give-up .ensures)
 
 returns-2 : tie.Need-returns-2
-returns-2 c = rw (sym (c .before .before .before .before .past-limit .ensures) ∙ c .before .before .before .if1 .left, c .before .with-phase2 .ensures, c .challenge-reply .ensures)
+returns-2 c = rw (sym (c .before .before .before .before .past-limit .ensures) ∙ c .before .before .before .if1 .left, c .move-to .ensures, c .before .challenge-reply .ensures)
 
 pub unlock-spec : {M : Type 1} → statement M
-unlock-spec =
-    tie.close (tie.spec (λ c κs. tt) (λ c κs. tt) (λ c κs. tt) returns (λ c κs. tt) (λ c κs. tt) returns-2)
+unlock-spec = tie.close (tie.spec (λ c κs. tt) (λ c κs. tt) returns (λ c κs. tt) (λ c κs. tt) returns-2)
