@@ -11,13 +11,11 @@ use Rattle.monitor.specs.declared.time.Stamp.{Stamp}
 use Rattle.monitor.specs.declared.time.Ticks.{Ticks}
 use Rattle.monitor.specs.declared.unit.Turn.{Turn}
 use Rattle.monitor.specs.declared.bench.Bench.{Bench}
-use Rattle.monitor.specs.declared.bench.PoweredOn.{PoweredOn}
 use Rattle.monitor.specs.declared.bench.Outcome.{Outcome}
-use Rattle.monitor.specs.declared.bench.UptimeReading.{UptimeReading}
 use Rattle.monitor.specs.declared.bench.UptimeReading.the-variants.{Read as Ticked, Refused as NotTicked}
 use Rattle.monitor.specs.Times.{earlier}
-use Rattle.monitor.specs.Settings.{accepted}
-use Rattle.monitor.specs.Messages.{quiet as noReply}
+use Rattle.maintenance.specs.Settings.{accepted}
+use Rattle.maintenance.specs.Messages.{quiet as noReply}
 use Rattle.monitor.specs.Rules.{woken, uptimeOf}
 use Rattle.monitor.specs.Events.{Event, PowerOn, beyond, early, stampOf, step, refusedBy, acceptedAt, answeredTo, poweredOn, uptimeAsked, benchAt}
 use Rattle.monitor.specs.Answers.{on, ticks, givenReply, toldOutcome, toldPowerOn, toldUptime, eventConditions, powerOnConditions, uptimeConditions}

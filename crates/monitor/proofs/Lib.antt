@@ -1,8 +1,6 @@
 -- The laws of the monitor's definitions, and the proofs of its promise.
 pub mod Times
 pub mod Events
-pub mod Messages
-pub mod Settings
 pub mod Rules
 pub mod Runs
 pub mod Promise

@@ -1,8 +1,6 @@
 -- The monitor keeps its promise. Assumes nothing.
 use Rattle.monitor.specs.Promise.{Promise}
 use Rattle.monitor.proofs.Events.{handles, powers-on, uptime-told}
-use Rattle.monitor.proofs.Messages.{says, right-means}
-use Rattle.monitor.proofs.Settings.{negative}
 use Rattle.monitor.proofs.Rules.{unheard, starts}
 use Rattle.monitor.proofs.Runs.{holds}
 
@@ -12,9 +10,6 @@ promise =
       events = handles;
       power-on = powers-on;
       uptime = uptime-told;
-      messages = says;
-      right = right-means;
-      negative = negative;
       unheard = unheard;
       starts = starts;
       history = holds;

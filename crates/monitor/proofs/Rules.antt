@@ -5,17 +5,16 @@ use lib.Dec.{eqb}
 use Rattle.words.proofs.Tests.{decided}
 use Rattle.codec.specs.declared.frame.Frame.{Frame}
 use Rattle.monitor.specs.declared.time.Stamp.{Stamp}
-use Rattle.monitor.specs.declared.setting.Settings.{Settings}
-use Rattle.monitor.specs.declared.message.Message.{Message}
+use Rattle.maintenance.specs.declared.setting.Settings.{Settings}
+use Rattle.maintenance.specs.declared.message.Message.{Message}
 use Rattle.monitor.specs.declared.unit.Phase.{Phase}
 use Rattle.monitor.specs.declared.unit.Phase.the-variants.{Outside, InSession}
 use Rattle.monitor.specs.declared.unit.Monitor.{Monitor}
-use Rattle.monitor.specs.declared.unit.Turn.{Turn}
 use Rattle.monitor.specs.Times.{pastLimit}
-use Rattle.monitor.specs.Messages.{isCommit, quiet}
-use Rattle.monitor.specs.Rules.{turn, started, wokenBy, woken, insideBy, heard, met, frameMet, framed}
+use Rattle.maintenance.specs.Messages.{quiet}
+use Rattle.monitor.specs.Rules.{turn, wokenBy, woken, insideBy, heard, met}
 use Rattle.monitor.specs.Promise.{UnheardChangesNothing, Starts}
-use Rattle.monitor.proofs.Messages.{says}
+use Rattle.maintenance.proofs.Messages.{says}
 
 woken-stored-by : (phase : Phase) (at : Stamp) (m : Monitor) → wokenBy phase at m .stored ≡ m .stored
 woken-stored-by (Outside pending) at m = refl

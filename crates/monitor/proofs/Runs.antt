@@ -2,35 +2,32 @@
 -- Assumes nothing.
 use Prim.Native.Nat.{ℕ, _+_, _≤_}
 use mathlib.Core.Path.{_≡_, refl, sym, subst}
-use mathlib.Core.Bool.{Bool, true, false, not, cond, _&&_}
+use mathlib.Core.Bool.{Bool, true, false, not, _&&_}
 use mathlib.Core.List.{List, [], _∷_}
-use lib.Dec.{leb, ltb}
+use lib.Dec.{leb}
 use borrow.Author.Tests.{leb-true, ltb-true, ltb-false, le-ltb}
 use native.Mathlib.Omega.{arith}
 use Rattle.words.proofs.Tests.{decided, false-true}
 use Rattle.codec.specs.declared.frame.Frame.{Frame}
 use Rattle.codec.specs.Building.{buildReport}
 use Rattle.monitor.specs.declared.time.Stamp.{Stamp}
-use Rattle.monitor.specs.declared.setting.Settings.{Settings}
-use Rattle.monitor.specs.declared.message.Message.{Message}
-use Rattle.monitor.specs.declared.message.Message.the-variants.{Other, Unlock, Commit, Answer, SerialRequest, Read, Write}
-use Rattle.monitor.specs.declared.message.Reply.{Reply}
+use Rattle.maintenance.specs.declared.setting.Settings.{Settings}
+use Rattle.maintenance.specs.declared.message.Message.{Message}
+use Rattle.maintenance.specs.declared.message.Message.the-variants.{Other, Unlock, Commit, Answer, SerialRequest, Read, Write}
 use Rattle.monitor.specs.declared.unit.Pending.{Pending}
 use Rattle.monitor.specs.declared.unit.Pending.the-variants.{Nothing, Since}
-use Rattle.monitor.specs.declared.unit.Session.{Session}
 use Rattle.monitor.specs.declared.unit.Phase.{Phase}
 use Rattle.monitor.specs.declared.unit.Phase.the-variants.{Outside, InSession}
 use Rattle.monitor.specs.declared.unit.Monitor.{Monitor}
-use Rattle.monitor.specs.declared.unit.Turn.{Turn}
 use Rattle.monitor.specs.declared.bench.Bench.{Bench}
-use Rattle.monitor.specs.Times.{later, earlier, pastLimit}
-use Rattle.monitor.specs.Settings.{legal, accepted, withValue}
-use Rattle.monitor.specs.Messages.{message, isRight, quiet, serialReport}
-use Rattle.monitor.specs.Rules.{inPhase, transmitId, started, wokenBy, woken, unlocked, sessionAt, answered, outsideBy, written, committed, insideBy, heard, metBy, frameMet}
+use Rattle.monitor.specs.Times.{later, pastLimit}
+use Rattle.maintenance.specs.Settings.{legal, accepted, withValue}
+use Rattle.maintenance.specs.Messages.{message, isRight, quiet, serialReport}
+use Rattle.monitor.specs.Rules.{inPhase, transmitId, started, wokenBy, woken, unlocked, sessionAt, answered, outsideBy, insideBy, heard, metBy, frameMet}
 use Rattle.monitor.specs.Events.{Event, frameEvent, resetEvent, PowerOn, IsAccepted, stampOf, beyond, early, step, answeredTo, after}
 use Rattle.monitor.specs.Promise.{OnIdentifier, Holds}
-use Rattle.monitor.proofs.Messages.{Listed, serial-listed}
-use Rattle.monitor.proofs.Settings.{Parts, accepted-parts, written-accepted, level-some, voltage-below}
+use Rattle.maintenance.proofs.Messages.{Listed, serial-listed}
+use Rattle.maintenance.proofs.Settings.{accepted-parts, written-accepted, level-some, voltage-below}
 use Rattle.monitor.proofs.Rules.{woken-stored}
 
 -- ---- the invariant

@@ -9,14 +9,14 @@ use Rattle.codec.specs.declared.frame.Frame.{Frame}
 use Rattle.codec.specs.declared.frame.Answer.{Answer}
 use Rattle.codec.specs.declared.frame.Answer.the-variants.{Accepted, Refused}
 use Rattle.monitor.specs.declared.time.Stamp.{Stamp}
-use Rattle.monitor.specs.declared.message.Reply.{Reply}
+use Rattle.maintenance.specs.declared.message.Reply.{Reply}
 use Rattle.monitor.specs.declared.bench.Bench.{Bench}
 use Rattle.monitor.specs.declared.bench.PoweredOn.{PoweredOn}
 use Rattle.monitor.specs.declared.bench.Outcome.{Outcome}
 use Rattle.monitor.specs.declared.bench.UptimeReading.{UptimeReading}
 use Rattle.monitor.specs.declared.bench.UptimeReading.the-variants.{Read as Ticked, Refused as NotTicked}
 use Rattle.monitor.specs.Times.{earlier}
-use Rattle.monitor.specs.Settings.{accepted}
+use Rattle.maintenance.specs.Settings.{accepted}
 use Rattle.monitor.specs.Events.{Event, PowerOn, beyond, early}
 
 -- the monitor is on; no reply; the identifier and the bytes of a reply; the ticks of the uptime

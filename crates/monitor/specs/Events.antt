@@ -10,7 +10,7 @@ use Rattle.codec.specs.declared.frame.Frame.{Frame}
 use Rattle.codec.specs.declared.frame.Answer.the-variants.{Accepted, Refused}
 use Rattle.codec.specs.Frames.{overLimits}
 use Rattle.monitor.specs.declared.time.Stamp.{Stamp}
-use Rattle.monitor.specs.declared.setting.Settings.{Settings}
+use Rattle.maintenance.specs.declared.setting.Settings.{Settings}
 use Rattle.monitor.specs.declared.unit.Monitor.{Monitor}
 use Rattle.monitor.specs.declared.unit.Turn.{Turn}
 use Rattle.monitor.specs.declared.bench.Bench.{Bench}
@@ -19,8 +19,8 @@ use Rattle.monitor.specs.declared.bench.Outcome.{Outcome}
 use Rattle.monitor.specs.declared.bench.UptimeReading.{UptimeReading}
 use Rattle.monitor.specs.declared.bench.UptimeReading.the-variants.{Read as Ticked, Refused as NotTicked}
 use Rattle.monitor.specs.Times.{earlier}
-use Rattle.monitor.specs.Settings.{accepted}
-use Rattle.monitor.specs.Messages.{quiet}
+use Rattle.maintenance.specs.Settings.{accepted}
+use Rattle.maintenance.specs.Messages.{quiet}
 use Rattle.monitor.specs.Rules.{startedWith, framed, wasReset, uptimeOf}
 
 -- "Events: a frame with a stamp and a note whether storage works, or a reset with a stamp."

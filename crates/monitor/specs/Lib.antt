@@ -1,7 +1,5 @@
 -- What the monitor speaks of, from document 01's section "The bench monitor". What it promises is in `Promise`.
 pub mod Times
-pub mod Settings
-pub mod Messages
 pub mod Rules
 pub mod Events
 pub mod Answers

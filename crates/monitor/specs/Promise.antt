@@ -1,25 +1,20 @@
 -- What the monitor promises, for every monitor, every event and every history there is. `proofs/Promise` proves it.
-use Prim.Native.Nat.{ℕ, _+_, _-_, _/_, _<_, _≤_}
+use Prim.Native.Nat.{ℕ, _-_, _/_, _<_, _≤_}
 use mathlib.Core.Path.{_≡_}
 use mathlib.Core.Bool.{Bool, true, false}
 use mathlib.Core.List.{List}
-use mathlib.Core.Logic.{_↔_, _⊎_}
 use Rattle.refusal.specs.Conditions.{First, None, Answers}
 use Rattle.codec.specs.declared.frame.Frame.{Frame}
-use Rattle.codec.specs.Table.{part, numberAt}
 use Rattle.monitor.specs.declared.time.Stamp.{Stamp}
-use Rattle.monitor.specs.declared.setting.Setting.{Setting}
-use Rattle.monitor.specs.declared.setting.Settings.{Settings}
-use Rattle.monitor.specs.declared.message.Message.the-variants.{Unlock, Commit, Answer, SerialRequest, Read, Write}
-use Rattle.monitor.specs.declared.message.Reply.{Reply}
+use Rattle.maintenance.specs.declared.setting.Settings.{Settings}
+use Rattle.maintenance.specs.declared.message.Reply.{Reply}
 use Rattle.monitor.specs.declared.unit.Session.{Session}
 use Rattle.monitor.specs.declared.unit.Phase.the-variants.{InSession}
 use Rattle.monitor.specs.declared.unit.Monitor.{Monitor}
-use Rattle.monitor.specs.declared.unit.Turn.{Turn}
 use Rattle.monitor.specs.declared.bench.Bench.{Bench}
 use Rattle.monitor.specs.Times.{later, pastLimit}
-use Rattle.monitor.specs.Settings.{code, legal, accepted}
-use Rattle.monitor.specs.Messages.{byte, isUnlock, isCommit, isAnswer, message, challengeOf, answerTo, isRight, quiet as noReply}
+use Rattle.maintenance.specs.Settings.{accepted}
+use Rattle.maintenance.specs.Messages.{isCommit, quiet as noReply}
 use Rattle.monitor.specs.Rules.{turn, startedWith, woken, heard, framed, inside, wasReset}
 use Rattle.monitor.specs.Events.{Event, PowerOn, IsAccepted, stampOf, step, answeredTo, poweredOn, uptimeAsked, benchAt, after}
 use Rattle.monitor.specs.Answers.{on, ticks, givenReply, toldOutcome, toldPowerOn, toldUptime, eventConditions, powerOnConditions, uptimeConditions}
@@ -32,25 +27,6 @@ pub record Handles (e : Event) (b : Bench) : Type 0 where
   pub answers : Answers (toldOutcome (answeredTo e b)) (eventConditions e b) (givenReply (step e (b .monitor) .reply))
   pub same : (n : ℕ) → First n (eventConditions e b) → (answeredTo e b .bench ≡ b) × (answeredTo e b .reply ≡ noReply)
   pub next : None (eventConditions e b) → answeredTo e b .bench ≡ benchAt (stampOf e) (step e (b .monitor) .monitor)
-
--- ---- messages
-
--- Each kind of message is read as such, whatever the others are: their order in the definition decides nothing.
-pub record Says (f : Frame) : Type 0 where
-  pub unlock : isUnlock f ≡ true → message f ≡ Unlock
-  pub commit : isCommit f ≡ true → message f ≡ Commit
-  pub answer : isAnswer f ≡ true → message f ≡ Answer
-  pub serial : (f .length ≡ 1) ⊎ (f .length ≡ 3) → 0x08 ≤ byte f 0 → byte f 0 ≤ 0x0B → message f ≡ SerialRequest (byte f 0)
-  pub read : (s : Setting) → f .length ≡ 1 → byte f 0 ≡ code s → message f ≡ Read s
-  pub write : (s : Setting) → f .length ≡ 5 → byte f 0 ≡ code s → message f ≡ Write s (numberAt (f .bytes) 1 4)
-
--- an answer is right exactly when its seven bytes are the answer to the challenge
-abbrev pub RightMeans : Type 0
-RightMeans = (serial : List ℕ) (f : Frame) → isRight serial f ≡ true ↔ part (f .bytes) 1 7 ≡ answerTo (challengeOf serial)
-
--- "A value with its top bit set is negative and refused by NAK."
-abbrev pub NegativeRefused : Type 0
-NegativeRefused = (rating : ℕ) (s : Setting) (v : ℕ) → rating ≤ 65535 → 2147483648 ≤ v → legal rating s v ≡ false
 
 -- ---- rules
 
@@ -95,9 +71,6 @@ pub record Promise : Type 0 where
   pub events : (e : Event) (b : Bench) → Handles e b
   pub power-on : (p : PowerOn) → Answers (toldPowerOn (poweredOn (p .at) (p .serial) (p .rating) (p .settings))) (powerOnConditions p) on
   pub uptime : (at : Stamp) (b : Bench) → Answers (toldUptime (uptimeAsked at b)) (uptimeConditions at b) (ticks ((at .0 - woken at (b .monitor) .start .0) / 10))
-  pub messages : (f : Frame) → Says f
-  pub right : RightMeans
-  pub negative : NegativeRefused
   pub unheard : UnheardChangesNothing
   pub starts : (m : Monitor) → Starts m
   pub history : (p : PowerOn) → IsAccepted p → (h : List Event) → Holds p h

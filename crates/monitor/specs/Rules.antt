@@ -7,21 +7,20 @@ use lib.Dec.{eqb}
 use Rattle.codec.specs.declared.frame.Frame.{Frame}
 use Rattle.monitor.specs.declared.time.Stamp.{Stamp}
 use Rattle.monitor.specs.declared.time.Ticks.{Ticks}
-use Rattle.monitor.specs.declared.setting.Setting.{Setting}
-use Rattle.monitor.specs.declared.setting.Settings.{Settings}
-use Rattle.monitor.specs.declared.message.Message.{Message}
-use Rattle.monitor.specs.declared.message.Message.the-variants.{Other, Unlock, Commit, Answer, SerialRequest, Read, Write}
-use Rattle.monitor.specs.declared.message.Reply.{Reply}
+use Rattle.maintenance.specs.declared.setting.Setting.{Setting}
+use Rattle.maintenance.specs.declared.setting.Settings.{Settings}
+use Rattle.maintenance.specs.declared.message.Message.{Message}
+use Rattle.maintenance.specs.declared.message.Message.the-variants.{Other, Unlock, Commit, Answer, SerialRequest, Read, Write}
+use Rattle.maintenance.specs.declared.message.Reply.{Reply}
 use Rattle.monitor.specs.declared.unit.Pending.{Pending}
 use Rattle.monitor.specs.declared.unit.Pending.the-variants.{Nothing, Since}
-use Rattle.monitor.specs.declared.unit.Session.{Session}
 use Rattle.monitor.specs.declared.unit.Phase.{Phase}
 use Rattle.monitor.specs.declared.unit.Phase.the-variants.{Outside, InSession}
 use Rattle.monitor.specs.declared.unit.Monitor.{Monitor}
 use Rattle.monitor.specs.declared.unit.Turn.{Turn}
 use Rattle.monitor.specs.Times.{later, pastLimit, ticksBetween}
-use Rattle.monitor.specs.Settings.{legal, valueOf, withValue}
-use Rattle.monitor.specs.Messages.{message, isRight, quiet, ack, nak, challenged, shown, serialReport}
+use Rattle.maintenance.specs.Settings.{legal, valueOf, withValue}
+use Rattle.maintenance.specs.Messages.{message, isRight, quiet, ack, nak, challenged, shown, serialReport}
 
 abbrev pub turn : Monitor → Reply → Turn
 turn m reply = record { monitor = m; reply = reply }

@@ -1,10 +1,6 @@
 // The monitor on the bench: with the last accepted stamp it gives the refusals. A refused call returns the bench it was given.
 ghost use mathlib.Core.Path.{_≡_};
 ghost use Rattle.monitor.specs.Events.{frameEvent, resetEvent, noBench, poweredOn, answeredTo, refusedBy, acceptedAt, uptimeAsked};
-use crate::message::Reply;
-use crate::message::no_reply;
-use crate::setting::Settings;
-use crate::setting::is_accepted;
 use crate::time::Stamp;
 use crate::time::Ticks;
 use crate::time::is_earlier;
@@ -15,6 +11,10 @@ use crate::unit::start_with;
 use codec::frame::Answer;
 use codec::frame::Frame;
 use codec::frame::over_limits;
+use maintenance::message::Reply;
+use maintenance::message::no_reply;
+use maintenance::setting::Settings;
+use maintenance::setting::is_accepted;
 use refusal::Refusal;
 
 pub struct Bench {

@@ -1,6 +1,6 @@
 // Two units of time, kept apart: milliseconds of the bench and ticks of the uptime.
 ghost use mathlib.Core.Path.{_≡_};
-ghost use Rattle.monitor.specs.Times.{pastLimit, earlier, later, ticksBetween};
+ghost use Rattle.monitor.specs.Times.{pastLimit, earlier, ticksBetween};
 
 // A moment on the bench's clock, in milliseconds.
 pub struct Stamp(pub u32);

@@ -24,26 +24,26 @@ ghost use Rattle.monitor.specs.Rules.{
   wasReset,
   uptimeOf,
 };
-use crate::message::Message;
-use crate::message::Reply;
-use crate::message::ack_reply;
-use crate::message::challenge_reply;
-use crate::message::is_right;
-use crate::message::message_of;
-use crate::message::nak_reply;
-use crate::message::no_reply;
-use crate::message::serial_reply;
-use crate::message::value_reply;
-use crate::setting::Setting;
-use crate::setting::Settings;
-use crate::setting::is_legal;
-use crate::setting::value_of;
-use crate::setting::with_value;
 use crate::time::Stamp;
 use crate::time::Ticks;
 use crate::time::past_limit;
 use crate::time::ticks_between;
 use codec::frame::Frame;
+use maintenance::message::Message;
+use maintenance::message::Reply;
+use maintenance::message::ack_reply;
+use maintenance::message::challenge_reply;
+use maintenance::message::is_right;
+use maintenance::message::message_of;
+use maintenance::message::nak_reply;
+use maintenance::message::no_reply;
+use maintenance::message::serial_reply;
+use maintenance::message::value_reply;
+use maintenance::setting::Setting;
+use maintenance::setting::Settings;
+use maintenance::setting::is_legal;
+use maintenance::setting::value_of;
+use maintenance::setting::with_value;
 
 // A challenge that waits for its answer, since its stamp.
 pub enum Pending {

@@ -7,7 +7,7 @@ use lib.ListN.{getD}
 use Rattle.codec.specs.declared.frame.Frame.{Frame}
 use Rattle.codec.specs.Table.{part, numberAt}
 use Rattle.monitor.specs.declared.time.Stamp.{Stamp}
-use Rattle.monitor.specs.declared.setting.Settings.{Settings}
+use Rattle.maintenance.specs.declared.setting.Settings.{Settings}
 use Rattle.monitor.specs.Events.{Event, frameEvent, resetEvent}
 
 -- byte 4: the kind, 0 to 5; byte 5 of a frame: 0 standard, 1 extended

@@ -1,11 +1,10 @@
 // Answers as lines of text.
 use codec::frame::Answer;
+use maintenance::message::Reply;
 use monitor::bench::Bench;
 use monitor::bench::Outcome;
 use monitor::bench::UptimeReading;
 use monitor::bench::monitor;
-use monitor::message::Reply;
-use monitor::setting::Settings;
 use monitor::time::Ticks;
 use monitor::unit::stored;
 use show::frame;

@@ -3,12 +3,12 @@ mod line;
 mod record;
 
 use codec::frame::Answer;
+use maintenance::message::answer_to;
 use monitor::bench::Bench;
 use monitor::bench::Outcome;
 use monitor::bench::PoweredOn;
 use monitor::bench::no_bench;
 use monitor::bench::uptime;
-use monitor::message::answer_to;
 
 // The place for a monitor, whether one is on in it, and whether the input goes on.
 struct Place {

@@ -1,0 +1,4 @@
+-- The laws of settings and messages, and the proofs of their promise.
+pub mod Messages
+pub mod Settings
+pub mod Promise

@@ -1,0 +1,174 @@
+-- Messages: each kind is read as such, and an answer is right exactly when its bytes are. Assumes nothing.
+use Prim.Native.Nat.{ℕ, _≤_}
+use mathlib.Core.Path.{_≡_, refl, sym}
+use mathlib.Core.Bool.{Bool, true, false, cond, _&&_, _||_}
+use mathlib.Core.List.{List, [], _∷_}
+use mathlib.Core.Logic.{_⊎_, inl, inr}
+use lib.Dec.{eqb, leb}
+use lib.ListN.{getD}
+use borrow.Author.Tests.{eqb-true, eq-eqb, ne-eqb, le-leb, leb-true}
+use native.Mathlib.Omega.{arith}
+use Rattle.words.proofs.Tests.{false-true}
+use Rattle.codec.specs.declared.frame.Frame.{Frame}
+use Rattle.codec.specs.Table.{part, numberAt}
+use Rattle.maintenance.specs.declared.setting.Setting.{Setting}
+use Rattle.maintenance.specs.declared.setting.Setting.the-variants.{ReceiveId, TransmitId, Speed, Voltage, WarningLevel, FaultLevel}
+use Rattle.maintenance.specs.declared.setting.Named.{Named}
+use Rattle.maintenance.specs.declared.setting.Named.the-variants.{Unknown, Known}
+use Rattle.maintenance.specs.declared.message.Message.{Message}
+use Rattle.maintenance.specs.declared.message.Message.the-variants.{Other, Unlock, Commit, Answer, SerialRequest, Read, Write}
+use Rattle.maintenance.specs.Settings.{code, settingOf}
+use Rattle.maintenance.specs.Messages.{byte, isUnlock, isCommit, isAnswer, asksSerial, asRead, asWrite, message, sameSeven, challengeOf, answerTo}
+use Rattle.maintenance.specs.Promise.{Says, RightMeans}
+
+-- ---- tests joined
+
+pub and-left : (a b : Bool) → (a && b) ≡ true → a ≡ true
+and-left true b e = refl
+and-left false b e = e
+
+pub and-right : (a b : Bool) → (a && b) ≡ true → b ≡ true
+and-right true b e = e
+and-right false b e = false-true (sym e)
+
+pub and-false : (a : Bool) → (a && false) ≡ false
+and-false true = refl
+and-false false = refl
+
+-- ---- codes
+
+code-named : (s : Setting) → settingOf (code s) ≡ Known s
+code-named ReceiveId = refl
+code-named TransmitId = refl
+code-named Speed = refl
+code-named Voltage = refl
+code-named WarningLevel = refl
+code-named FaultLevel = refl
+
+-- no code is a serial request
+code-apart : (s : Setting) → (leb 0x08 (code s) && leb (code s) 0x0B) ≡ false
+code-apart ReceiveId = refl
+code-apart TransmitId = refl
+code-apart Speed = refl
+code-apart Voltage = refl
+code-apart WarningLevel = refl
+code-apart FaultLevel = refl
+
+-- ---- each kind
+
+says-commit : (f : Frame) → isCommit f ≡ true → message f ≡ Commit
+unfolding message
+says-commit f h =
+    let a = and-left (eqb (f .length) 3 && eqb (byte f 0) 0x14 && eqb (byte f 1) 0x9A) _ h in
+    let second = eqb-true (byte f 1) 0x9A (and-right (eqb (f .length) 3 && eqb (byte f 0) 0x14) _ a) in
+    let other : isUnlock f ≡ false = rw (second, and-false (eqb (f .length) 3 && eqb (byte f 0) 0x14)) refl in
+    rw (other, h) refl
+
+says-answer : (f : Frame) → isAnswer f ≡ true → message f ≡ Answer
+unfolding message
+says-answer f h =
+    let length = eqb-true (f .length) 8 (and-left (eqb (f .length) 8) _ h) in
+    let first = and-right (eqb (f .length) 8) _ h in
+    rw (length, first) refl
+
+says-serial : (f : Frame) → (f .length ≡ 1) ⊎ (f .length ≡ 3) → 0x08 ≤ byte f 0 → byte f 0 ≤ 0x0B → message f ≡ SerialRequest (byte f 0)
+unfolding message
+says-serial f (inl l) low high = rw (l, le-leb 0x08 (byte f 0) low, le-leb (byte f 0) 0x0B high) refl
+says-serial f (inr l) low high =
+    rw (l, ne-eqb (byte f 0) 0x14 (λ e. omega arith), le-leb 0x08 (byte f 0) low, le-leb (byte f 0) 0x0B high) refl
+
+says-read : (f : Frame) (s : Setting) → f .length ≡ 1 → byte f 0 ≡ code s → message f ≡ Read s
+unfolding message
+says-read f s l b = rw (l, b, code-apart s, code-named s) refl
+
+says-write : (f : Frame) (s : Setting) → f .length ≡ 5 → byte f 0 ≡ code s → message f ≡ Write s (numberAt (f .bytes) 1 4)
+unfolding message
+says-write f s l b = rw (l, b, code-named s) refl
+
+says-unlock : (f : Frame) → isUnlock f ≡ true → message f ≡ Unlock
+unfolding message
+says-unlock f h = rw h refl
+
+pub says : (f : Frame) → Says f
+says f =
+    record {
+      unlock = says-unlock f;
+      commit = says-commit f;
+      answer = says-answer f;
+      serial = says-serial f;
+      read = says-read f;
+      write = says-write f;
+    }
+
+-- ---- a serial request is one of 08 to 0B
+
+abbrev pub Listed : Message → Type 0
+Listed Other = Unit
+Listed Unlock = Unit
+Listed Commit = Unit
+Listed Answer = Unit
+Listed (SerialRequest mux) = (0x08 ≤ mux) × (mux ≤ 0x0B)
+Listed (Read s) = Unit
+Listed (Write s v) = Unit
+
+read-listed : (n : Named) → Listed (asRead n)
+read-listed Unknown = tt
+read-listed (Known s) = tt
+
+write-listed : (n : Named) (v : ℕ) → Listed (asWrite n v)
+write-listed Unknown v = tt
+write-listed (Known s) v = tt
+
+either : (t : Bool) (x y : Message) → (t ≡ true → Listed x) → Listed y → Listed (cond t x y)
+either true x y p q = p refl
+either false x y p q = q
+
+serial-bounds : (f : Frame) → asksSerial f ≡ true → (0x08 ≤ byte f 0) × (byte f 0 ≤ 0x0B)
+serial-bounds f t =
+    let short = eqb (f .length) 1 || eqb (f .length) 3 in (
+      leb-true 0x08 (byte f 0) (and-right short (leb 0x08 (byte f 0)) (and-left (short && leb 0x08 (byte f 0)) (leb (byte f 0) 0x0B) t)),
+      leb-true (byte f 0) 0x0B (and-right (short && leb 0x08 (byte f 0)) (leb (byte f 0) 0x0B) t),
+    )
+
+pub serial-listed : (f : Frame) → Listed (message f)
+unfolding message
+serial-listed f =
+    either (isUnlock f) Unlock _ (λ t. tt)
+    (either (isCommit f) Commit _ (λ t. tt)
+    (either (isAnswer f) Answer _ (λ t. tt)
+    (either (asksSerial f) (SerialRequest (byte f 0)) _ (serial-bounds f)
+    (either (eqb (f .length) 1) (asRead (settingOf (byte f 0))) _ (λ t. read-listed (settingOf (byte f 0)))
+    (either (eqb (f .length) 5) (asWrite (settingOf (byte f 0)) (numberAt (f .bytes) 1 4)) Other (λ t. write-listed (settingOf (byte f 0)) (numberAt (f .bytes) 1 4)) tt)))))
+
+-- ---- right answers
+
+same-seven : (a b c d e g h a' b' c' d' e' g' h' : ℕ) → sameSeven (a ∷ b ∷ c ∷ d ∷ e ∷ g ∷ h ∷ []) (a' ∷ b' ∷ c' ∷ d' ∷ e' ∷ g' ∷ h' ∷ []) ≡ true → (a ∷ b ∷ c ∷ d ∷ e ∷ g ∷ h ∷ []) ≡ (a' ∷ b' ∷ c' ∷ d' ∷ e' ∷ g' ∷ h' ∷ [])
+same-seven a b c d e g h a' b' c' d' e' g' h' t7 =
+    let t6 = and-left (eqb a a' && eqb b b' && eqb c c' && eqb d d' && eqb e e' && eqb g g') (eqb h h') t7 in
+    let t5 = and-left (eqb a a' && eqb b b' && eqb c c' && eqb d d' && eqb e e') (eqb g g') t6 in
+    let t4 = and-left (eqb a a' && eqb b b' && eqb c c' && eqb d d') (eqb e e') t5 in
+    let t3 = and-left (eqb a a' && eqb b b' && eqb c c') (eqb d d') t4 in
+    let t2 = and-left (eqb a a' && eqb b b') (eqb c c') t3 in
+    let t1 = and-left (eqb a a') (eqb b b') t2 in
+    rw (
+      eqb-true a a' t1,
+      eqb-true b b' (and-right (eqb a a') (eqb b b') t2),
+      eqb-true c c' (and-right (eqb a a' && eqb b b') (eqb c c') t3),
+      eqb-true d d' (and-right (eqb a a' && eqb b b' && eqb c c') (eqb d d') t4),
+      eqb-true e e' (and-right (eqb a a' && eqb b b' && eqb c c' && eqb d d') (eqb e e') t5),
+      eqb-true g g' (and-right (eqb a a' && eqb b b' && eqb c c' && eqb d d' && eqb e e') (eqb g g') t6),
+      eqb-true h h' (and-right (eqb a a' && eqb b b' && eqb c c' && eqb d d' && eqb e e' && eqb g g') (eqb h h') t7),
+    ) refl
+
+itself : (n : ℕ) → eqb n n ≡ true
+itself n = eq-eqb n n refl
+
+seven-same : (xs ys : List ℕ) → xs ≡ ys → sameSeven xs ys ≡ true
+seven-same xs ys e =
+    rw (e, itself (getD ys 0 0), itself (getD ys 1 0), itself (getD ys 2 0), itself (getD ys 3 0), itself (getD ys 4 0), itself (getD ys 5 0), itself (getD ys 6 0)) refl
+
+pub right-means : RightMeans
+right-means serial f = (
+  same-seven _ _ _ _ _ _ _ _ _ _ _ _ _ _,
+  seven-same (part (f .bytes) 1 7) (answerTo (challengeOf serial)),
+)

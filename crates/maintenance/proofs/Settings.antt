@@ -1,0 +1,96 @@
+-- Settings: what is accepted taken apart and put together, and values with the top bit set. Assumes nothing.
+use Prim.Native.Nat.{ℕ, _<_, _≤_}
+use mathlib.Core.Path.{_≡_, refl}
+use mathlib.Core.Bool.{Bool, true, false, _&&_}
+use lib.Dec.{leb, ltb}
+use borrow.Author.Tests.{leb-true, ltb-true, lt-leb, le-ltb, ne-eqb}
+use native.Mathlib.Omega.{arith}
+use Rattle.maintenance.specs.declared.setting.Setting.{Setting}
+use Rattle.maintenance.specs.declared.setting.Setting.the-variants.{ReceiveId, TransmitId, Speed, Voltage, WarningLevel, FaultLevel}
+use Rattle.maintenance.specs.declared.setting.Settings.{Settings}
+use Rattle.maintenance.specs.Settings.{legal, accepted, withValue}
+use Rattle.maintenance.specs.Promise.{NegativeRefused}
+use Rattle.maintenance.proofs.Messages.{and-left, and-right, and-false}
+
+-- ---- negative values
+
+level-negative : (v : ℕ) → 2147483648 ≤ v → (leb 1 v && leb v 2147483647) ≡ false
+level-negative v h = rw (lt-leb v 2147483647 (omega arith)) (and-false (leb 1 v))
+
+pub negative : NegativeRefused
+negative rating ReceiveId v r h = lt-leb v 0x1FFFFFFF (omega arith)
+negative rating TransmitId v r h = lt-leb v 0x1FFFFFFF (omega arith)
+negative rating Speed v r h = rw (ne-eqb v 0x00CA0250 (λ e. omega arith), ne-eqb v 0x00CA0500 (λ e. omega arith)) refl
+negative rating Voltage v r h = rw (le-ltb v rating (omega arith)) (and-false (leb 1 v))
+negative rating WarningLevel v r h = level-negative v h
+negative rating FaultLevel v r h = level-negative v h
+
+-- ---- accepted settings, part by part
+
+pub record Parts (rating : ℕ) (k : Settings) : Type 0 where
+  pub rated : leb 1 rating ≡ true
+  pub receive : legal rating ReceiveId (k .receive) ≡ true
+  pub transmit : legal rating TransmitId (k .transmit) ≡ true
+  pub speed : legal rating Speed (k .speed) ≡ true
+  pub voltage : ltb (k .voltage) rating ≡ true
+  pub warning : legal rating WarningLevel (k .warning) ≡ true
+  pub fault : legal rating FaultLevel (k .fault) ≡ true
+
+pub parts-accepted : (rating : ℕ) (k : Settings) → Parts rating k → accepted rating k ≡ true
+parts-accepted rating k p =
+    rw (p .rated, p .receive, p .transmit, p .speed, p .voltage, p .warning, p .fault) refl
+
+joined : (a b c d e g h : Bool) → (a && b && c && d && e && g && h) ≡ true → (a ≡ true) × ((b ≡ true) × ((c ≡ true) × ((d ≡ true) × ((e ≡ true) × ((g ≡ true) × (h ≡ true))))))
+joined a b c d e g h t7 =
+    let t6 = and-left (a && b && c && d && e && g) h t7 in
+    let t5 = and-left (a && b && c && d && e) g t6 in
+    let t4 = and-left (a && b && c && d) e t5 in
+    let t3 = and-left (a && b && c) d t4 in
+    let t2 = and-left (a && b) c t3 in (
+      and-left a b t2,
+      (
+        and-right a b t2,
+        (
+          and-right (a && b) c t3,
+          (
+            and-right (a && b && c) d t4,
+            (and-right (a && b && c && d) e t5, (and-right (a && b && c && d && e) g t6, and-right (a && b && c && d && e && g) h t7)),
+          ),
+        ),
+      ),
+    )
+
+pub accepted-parts : (rating : ℕ) (k : Settings) → accepted rating k ≡ true → Parts rating k
+accepted-parts rating k t =
+    let p = joined (leb 1 rating) (legal rating ReceiveId (k .receive)) (legal rating TransmitId (k .transmit)) (legal rating Speed (k .speed)) (ltb (k .voltage) rating) (legal rating WarningLevel (k .warning)) (legal rating FaultLevel (k .fault)) t in
+    record {
+      rated = p .0;
+      receive = p .1 .0;
+      transmit = p .1 .1 .0;
+      speed = p .1 .1 .1 .0;
+      voltage = p .1 .1 .1 .1 .0;
+      warning = p .1 .1 .1 .1 .1 .0;
+      fault = p .1 .1 .1 .1 .1 .1;
+    }
+
+-- ---- a legal write keeps them accepted
+
+written-parts : (rating : ℕ) (k : Settings) (s : Setting) (v : ℕ) → Parts rating k → legal rating s v ≡ true → Parts rating (withValue k s v)
+written-parts rating k ReceiveId v p h = record { rated = p .rated; receive = h; transmit = p .transmit; speed = p .speed; voltage = p .voltage; warning = p .warning; fault = p .fault }
+written-parts rating k TransmitId v p h = record { rated = p .rated; receive = p .receive; transmit = h; speed = p .speed; voltage = p .voltage; warning = p .warning; fault = p .fault }
+written-parts rating k Speed v p h = record { rated = p .rated; receive = p .receive; transmit = p .transmit; speed = h; voltage = p .voltage; warning = p .warning; fault = p .fault }
+written-parts rating k Voltage v p h = record { rated = p .rated; receive = p .receive; transmit = p .transmit; speed = p .speed; voltage = and-right (leb 1 v) (ltb v rating) h; warning = p .warning; fault = p .fault }
+written-parts rating k WarningLevel v p h = record { rated = p .rated; receive = p .receive; transmit = p .transmit; speed = p .speed; voltage = p .voltage; warning = h; fault = p .fault }
+written-parts rating k FaultLevel v p h = record { rated = p .rated; receive = p .receive; transmit = p .transmit; speed = p .speed; voltage = p .voltage; warning = p .warning; fault = h }
+
+pub written-accepted : (rating : ℕ) (k : Settings) (s : Setting) (v : ℕ) → accepted rating k ≡ true → legal rating s v ≡ true → accepted rating (withValue k s v) ≡ true
+written-accepted rating k s v a h =
+    parts-accepted rating (withValue k s v) (written-parts rating k s v (accepted-parts rating k a) h)
+
+-- ---- what it means for the values
+
+pub level-some : (v : ℕ) → (leb 1 v && leb v 2147483647) ≡ true → 1 ≤ v
+level-some v t = leb-true 1 v (and-left (leb 1 v) (leb v 2147483647) t)
+
+pub voltage-below : (rating : ℕ) (k : Settings) → Parts rating k → k .voltage < rating
+voltage-below rating k p = ltb-true (k .voltage) rating (p .voltage)

@@ -1,0 +1,38 @@
+-- What is promised of settings and messages, for every frame and every value there is. `proofs/Promise` proves it.
+use Prim.Native.Nat.{ℕ, _≤_}
+use mathlib.Core.Path.{_≡_}
+use mathlib.Core.Bool.{true, false}
+use mathlib.Core.List.{List}
+use mathlib.Core.Logic.{_↔_, _⊎_}
+use Rattle.codec.specs.declared.frame.Frame.{Frame}
+use Rattle.codec.specs.Table.{part, numberAt}
+use Rattle.maintenance.specs.declared.setting.Setting.{Setting}
+use Rattle.maintenance.specs.declared.message.Message.the-variants.{Unlock, Commit, Answer, SerialRequest, Read, Write}
+use Rattle.maintenance.specs.Settings.{code, legal}
+use Rattle.maintenance.specs.Messages.{byte, isUnlock, isCommit, isAnswer, message, challengeOf, answerTo, isRight}
+
+-- ---- messages
+
+-- Each kind of message is read as such, whatever the others are: their order in the definition decides nothing.
+pub record Says (f : Frame) : Type 0 where
+  pub unlock : isUnlock f ≡ true → message f ≡ Unlock
+  pub commit : isCommit f ≡ true → message f ≡ Commit
+  pub answer : isAnswer f ≡ true → message f ≡ Answer
+  pub serial : (f .length ≡ 1) ⊎ (f .length ≡ 3) → 0x08 ≤ byte f 0 → byte f 0 ≤ 0x0B → message f ≡ SerialRequest (byte f 0)
+  pub read : (s : Setting) → f .length ≡ 1 → byte f 0 ≡ code s → message f ≡ Read s
+  pub write : (s : Setting) → f .length ≡ 5 → byte f 0 ≡ code s → message f ≡ Write s (numberAt (f .bytes) 1 4)
+
+-- an answer is right exactly when its seven bytes are the answer to the challenge
+abbrev pub RightMeans : Type 0
+RightMeans = (serial : List ℕ) (f : Frame) → isRight serial f ≡ true ↔ part (f .bytes) 1 7 ≡ answerTo (challengeOf serial)
+
+-- "A value with its top bit set is negative and refused by NAK."
+abbrev pub NegativeRefused : Type 0
+NegativeRefused = (rating : ℕ) (s : Setting) (v : ℕ) → rating ≤ 65535 → 2147483648 ≤ v → legal rating s v ≡ false
+
+-- ---- the promise
+
+pub record Promise : Type 0 where
+  pub messages : (f : Frame) → Says f
+  pub right : RightMeans
+  pub negative : NegativeRefused
