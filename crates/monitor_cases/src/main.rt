@@ -1,4 +1,7 @@
 // Plays the runs of a cases file on standard input, a line for each record: docs/MONITOR_CASES.md has both formats.
+ghost use mathlib.Core.Path.{_≡_};
+ghost use Rattle.monitor_cases.specs.Places.{stoppedAt, holds, afterEvent, afterPowerOn};
+
 mod line;
 mod record;
 
@@ -17,11 +20,24 @@ struct Place {
     bench: Bench,
 }
 
-fn stopped(p: Place) -> Place {
+fn stopped(p: Place) -> Place
+    ensures { λ r. ⌜ r ≡ stoppedAt p ⌝ }
+{
     let bench = p.bench;
     Place {
         goes_on: false,
         on: p.on,
+        bench,
+    }
+}
+
+// The place with this monitor on in it.
+fn holding(bench: Bench) -> Place
+    ensures { λ r. ⌜ r ≡ holds bench ⌝ }
+{
+    Place {
+        goes_on: true,
+        on: true,
         bench,
     }
 }
@@ -41,20 +57,21 @@ fn question(p: Place, r: [u8; 20]) {
     }
 }
 
-// The bench after an event, whose line is shown.
-fn shown(o: Outcome) -> Place {
+// The place after an event, whose line is shown.
+fn shown(o: Outcome) -> Place
+    ensures { λ r. ⌜ r ≡ holds (o .bench) ⌝ }
+{
     let bench = o.bench;
     line::outcome(o);
     line::settings(bench);
-    Place {
-        goes_on: true,
-        on: true,
-        bench,
-    }
+    holding(bench)
 }
 
-fn event(p: Place, r: [u8; 20]) -> Place {
-    if p.on {
+fn event(p: Place, r: [u8; 20]) -> Place
+    ensures { λ x. ⌜ x ≡ afterEvent p r ⌝ }
+{
+    let on = p.on;
+    if on {
         let bench = p.bench;
         return shown(record::event(bench, r));
     }
@@ -63,16 +80,14 @@ fn event(p: Place, r: [u8; 20]) -> Place {
 }
 
 // An accepted power-on takes the place; a refused one leaves it as it was.
-fn placed(p: Place, n: PoweredOn) -> Place {
+fn placed(p: Place, n: PoweredOn) -> Place
+    ensures { λ r. ⌜ r ≡ afterPowerOn p n ⌝ }
+{
     let answer = n.answer;
     match answer {
         Answer::Accepted => {
             let bench = n.bench;
-            Place {
-                goes_on: true,
-                on: true,
-                bench,
-            }
+            holding(bench)
         }
         Answer::Refused(_) => p,
     }
