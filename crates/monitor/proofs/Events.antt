@@ -17,9 +17,10 @@ use Rattle.monitor.specs.Times.{earlier}
 use Rattle.maintenance.specs.Settings.{accepted}
 use Rattle.maintenance.specs.Messages.{quiet as noReply}
 use Rattle.monitor.specs.Rules.{woken, uptimeOf}
-use Rattle.monitor.specs.Events.{Event, PowerOn, beyond, early, stampOf, step, refusedBy, acceptedAt, answeredTo, poweredOn, uptimeAsked, benchAt}
+use Rattle.monitor.specs.Events.{Event, PowerOn, beyond, early, stampOf, step, refusedBy, acceptedAt, answeredTo, poweredOn, uptimeAsked, benchAt, after}
 use Rattle.monitor.specs.Answers.{on, ticks, givenReply, toldOutcome, toldPowerOn, toldUptime, eventConditions, powerOnConditions, uptimeConditions}
-use Rattle.monitor.specs.Promise.{Handles}
+use Rattle.monitor.specs.Promise.{Handles, PowersOn}
+use Rattle.monitor.proofs.Rules.{fresh}
 
 -- ---- events, over the two tests
 
@@ -55,10 +56,13 @@ on-told : (x : Bool) (b c : Bench) → toldPowerOn (cond x (record { answer = Ac
 on-told true b c = refl
 on-told false b c = refl
 
-pub powers-on : (p : PowerOn) → Answers (toldPowerOn (poweredOn (p .at) (p .serial) (p .rating) (p .settings))) (powerOnConditions p) on
+pub powers-on : (p : PowerOn) → PowersOn p
 powers-on p =
-    answers (toldPowerOn (poweredOn (p .at) (p .serial) (p .rating) (p .settings))) (powerOnConditions p) on
-    (on-told (accepted (p .rating) (p .settings)) _ _)
+    record {
+      answers = answers (toldPowerOn (poweredOn (p .at) (p .serial) (p .rating) (p .settings))) (powerOnConditions p) on (on-told (accepted (p .rating) (p .settings)) _ _);
+      fresh = λ a. rw (after, a) (fresh (p .serial) (p .rating) (p .settings) (p .at));
+      last = λ a. rw (after, a) refl;
+    }
 
 ticks-told : (x : Bool) (t : Ticks) → toldUptime (cond x (NotTicked EarlyStamp) (Ticked t)) ≡ pick ((7 when x) ∷ []) (ticks (t .0))
 ticks-told true t = refl

@@ -1,6 +1,6 @@
 -- The laws of the monitor's definitions, and the proofs of its promise.
 pub mod Times
-pub mod Events
 pub mod Rules
+pub mod Events
 pub mod Runs
 pub mod Promise

@@ -23,7 +23,7 @@ use Rattle.monitor.specs.declared.bench.Bench.{Bench}
 use Rattle.monitor.specs.Times.{later, pastLimit}
 use Rattle.maintenance.specs.Settings.{legal, accepted, withValue}
 use Rattle.maintenance.specs.Messages.{message, isRight, quiet, serialReport}
-use Rattle.monitor.specs.Rules.{inPhase, transmitId, started, wokenBy, woken, unlocked, sessionAt, answered, outsideBy, insideBy, heard, metBy, frameMet}
+use Rattle.monitor.specs.Rules.{inPhase, transmitId, started, wokenBy, woken, unlocked, sessionAt, answered, outside, inside, heard, metBy, frameMet}
 use Rattle.monitor.specs.Events.{Event, frameEvent, resetEvent, PowerOn, IsAccepted, stampOf, beyond, early, step, answeredTo, after}
 use Rattle.monitor.specs.Promise.{OnIdentifier, Holds}
 use Rattle.maintenance.proofs.Messages.{Listed, serial-listed}
@@ -77,7 +77,7 @@ module _ (p : PowerOn) where
       (λ x. rw x (in-phase t (sessionAt at (m .stored)) m (fit .stored) fit))
       (λ x. rw x (in-phase t (Outside Nothing) m tt fit))
 
-  outside-fit : (t : ℕ) (x : Message) (pending : Pending) (at : Stamp) (f : Frame) (m : Monitor) → Fit p t m → Fit p t (outsideBy x pending at f m .monitor)
+  outside-fit : (t : ℕ) (x : Message) (pending : Pending) (at : Stamp) (f : Frame) (m : Monitor) → Fit p t m → Fit p t (outside x pending at f m .monitor)
   outside-fit t Other pending at f m fit = fit
   outside-fit t Unlock pending at f m fit = unlock-fit t at m fit
   outside-fit t Commit pending at f m fit = fit
@@ -90,7 +90,7 @@ module _ (p : PowerOn) where
     goes-on : (k : Settings) → accepted (p .rating) k ≡ true → Fit p (at .0) (inPhase (sessionAt at k) m)
     goes-on k a = in-phase (at .0) (sessionAt at k) m a fit
 
-    inside-fit : (x : Message) (storing : Bool) → Fit p (at .0) (insideBy x draft at storing m .monitor)
+    inside-fit : (x : Message) (storing : Bool) → Fit p (at .0) (inside x draft at storing m .monitor)
     inside-fit Other storing = goes-on draft legal-draft
     inside-fit Unlock storing = goes-on draft legal-draft
     inside-fit Commit true = start-again (at .0) at draft m (omega arith) legal-draft (at .0) fit
@@ -148,7 +148,7 @@ answer-on Nothing at f m = silent-on (transmitId m)
 answer-on (Since since) at f m =
     decided (isRight (m .serial) f && not (pastLimit since 2000 at)) (λ x. rw x (λ s. (refl, refl))) (λ x. rw x (λ s. (refl, refl)))
 
-outside-on : (x : Message) → Listed x → (pending : Pending) (at : Stamp) (f : Frame) (m : Monitor) → leb (transmitId m) 0x1FFFFFFF ≡ true → OnIdentifier (transmitId m) (outsideBy x pending at f m .reply)
+outside-on : (x : Message) → Listed x → (pending : Pending) (at : Stamp) (f : Frame) (m : Monitor) → leb (transmitId m) 0x1FFFFFFF ≡ true → OnIdentifier (transmitId m) (outside x pending at f m .reply)
 outside-on Other l pending at f m h = silent-on (transmitId m)
 outside-on Unlock l pending at f m h = unlock-on at m
 outside-on Commit l pending at f m h = silent-on (transmitId m)
@@ -157,7 +157,7 @@ outside-on (SerialRequest mux) l pending at f m h = serial-on (transmitId m) (m 
 outside-on (Read s) l pending at f m h = silent-on (transmitId m)
 outside-on (Write s v) l pending at f m h = silent-on (transmitId m)
 
-inside-on : (x : Message) (draft : Settings) (at : Stamp) (storing : Bool) (m : Monitor) → OnIdentifier (transmitId m) (insideBy x draft at storing m .reply)
+inside-on : (x : Message) (draft : Settings) (at : Stamp) (storing : Bool) (m : Monitor) → OnIdentifier (transmitId m) (inside x draft at storing m .reply)
 inside-on Other draft at storing m = λ s. (refl, refl)
 inside-on Unlock draft at storing m = λ s. (refl, refl)
 inside-on Commit draft at true m = λ s. (refl, refl)

@@ -2,20 +2,21 @@
 use Prim.Native.Nat.{ℕ, _-_, _/_, _<_, _≤_}
 use mathlib.Core.Path.{_≡_}
 use mathlib.Core.Bool.{Bool, true, false}
-use mathlib.Core.List.{List}
+use mathlib.Core.List.{List, []}
 use Rattle.refusal.specs.Conditions.{First, None, Answers}
 use Rattle.codec.specs.declared.frame.Frame.{Frame}
 use Rattle.monitor.specs.declared.time.Stamp.{Stamp}
 use Rattle.maintenance.specs.declared.setting.Settings.{Settings}
 use Rattle.maintenance.specs.declared.message.Reply.{Reply}
 use Rattle.monitor.specs.declared.unit.Session.{Session}
-use Rattle.monitor.specs.declared.unit.Phase.the-variants.{InSession}
+use Rattle.monitor.specs.declared.unit.Pending.the-variants.{Nothing}
+use Rattle.monitor.specs.declared.unit.Phase.the-variants.{Outside, InSession}
 use Rattle.monitor.specs.declared.unit.Monitor.{Monitor}
 use Rattle.monitor.specs.declared.bench.Bench.{Bench}
 use Rattle.monitor.specs.Times.{later, pastLimit}
 use Rattle.maintenance.specs.Settings.{accepted}
-use Rattle.maintenance.specs.Messages.{isCommit, quiet as noReply}
-use Rattle.monitor.specs.Rules.{turn, startedWith, woken, heard, framed, inside, wasReset}
+use Rattle.maintenance.specs.Messages.{isCommit, message, quiet as noReply}
+use Rattle.monitor.specs.Rules.{turn, woken, heard, framed, inside, wasReset}
 use Rattle.monitor.specs.Events.{Event, PowerOn, IsAccepted, stampOf, step, answeredTo, poweredOn, uptimeAsked, benchAt, after}
 use Rattle.monitor.specs.Answers.{on, ticks, givenReply, toldOutcome, toldPowerOn, toldUptime, eventConditions, powerOnConditions, uptimeConditions}
 
@@ -28,21 +29,36 @@ pub record Handles (e : Event) (b : Bench) : Type 0 where
   pub same : (n : ℕ) → First n (eventConditions e b) → (answeredTo e b .bench ≡ b) × (answeredTo e b .reply ≡ noReply)
   pub next : None (eventConditions e b) → answeredTo e b .bench ≡ benchAt (stampOf e) (step e (b .monitor) .monitor)
 
+-- A monitor that has just started: "locked, with no draft and nothing pending". The serial, the rating and the stored six are all that
+-- is left of what was.
+pub record Fresh (bytes : List ℕ) (volts : ℕ) (k : Settings) (at : Stamp) (m : Monitor) : Type 0 where
+  pub serial : m .serial ≡ bytes
+  pub rating : m .rating ≡ volts
+  pub stored : m .stored ≡ k
+  pub start : m .start ≡ at
+  pub locked : m .phase ≡ Outside Nothing
+
+-- Power-on: 8 exactly when the settings or the rating are not legal; where they are, the monitor starts at the stamp.
+pub record PowersOn (p : PowerOn) : Type 0 where
+  pub answers : Answers (toldPowerOn (poweredOn (p .at) (p .serial) (p .rating) (p .settings))) (powerOnConditions p) on
+  pub fresh : IsAccepted p → Fresh (p .serial) (p .rating) (p .settings) (p .at) (after p [] .monitor)
+  pub last : IsAccepted p → after p [] .last ≡ p .at
+
 -- ---- rules
 
 -- "Frames not heard get no reply", and change nothing but what silence has already changed.
 abbrev pub UnheardChangesNothing : Type 0
 UnheardChangesNothing = (at : Stamp) (storing : Bool) (f : Frame) (m : Monitor) → heard f m ≡ false → framed at storing f m ≡ turn (woken at m) noReply
 
--- after a start, the serial, the rating and the stored six are all that is left of what was: the monitor is as power-on leaves it
+-- the same unit starts again
 abbrev pub StartsAt : Stamp → Settings → Monitor → Monitor → Type 0
-StartsAt at stored m n = n ≡ startedWith (m .serial) (m .rating) stored at
+StartsAt at stored m n = Fresh (m .serial) (m .rating) stored at n
 
 -- the starts: by reset, by a commit whether storage works or not, by silence
 pub record Starts (m : Monitor) : Type 0 where
   pub reset : (at : Stamp) → StartsAt at (m .stored) m (wasReset at m .monitor)
-  pub stored : (at : Stamp) (draft : Settings) (f : Frame) → isCommit f ≡ true → StartsAt at draft m (inside draft at true f m .monitor)
-  pub failed : (at : Stamp) (draft : Settings) (f : Frame) → isCommit f ≡ true → StartsAt at (m .stored) m (inside draft at false f m .monitor)
+  pub stored : (at : Stamp) (draft : Settings) (f : Frame) → isCommit f ≡ true → StartsAt at draft m (inside (message f) draft at true m .monitor)
+  pub failed : (at : Stamp) (draft : Settings) (f : Frame) → isCommit f ≡ true → StartsAt at (m .stored) m (inside (message f) draft at false m .monitor)
   pub silent : (s : Session) (at : Stamp) → m .phase ≡ InSession s → pastLimit (s .heard) 2000 at ≡ true → StartsAt (later (s .heard) 2000) (m .stored) m (woken at m)
 
 -- ---- after any history of events
@@ -69,7 +85,7 @@ pub record Holds (p : PowerOn) (h : List Event) : Type 0 where
 
 pub record Promise : Type 0 where
   pub events : (e : Event) (b : Bench) → Handles e b
-  pub power-on : (p : PowerOn) → Answers (toldPowerOn (poweredOn (p .at) (p .serial) (p .rating) (p .settings))) (powerOnConditions p) on
+  pub power-on : (p : PowerOn) → PowersOn p
   pub uptime : (at : Stamp) (b : Bench) → Answers (toldUptime (uptimeAsked at b)) (uptimeConditions at b) (ticks ((at .0 - woken at (b .monitor) .start .0) / 10))
   pub unheard : UnheardChangesNothing
   pub starts : (m : Monitor) → Starts m

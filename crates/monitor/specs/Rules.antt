@@ -93,17 +93,14 @@ abbrev pub serialAsked : ℕ → Monitor → Turn
 serialAsked mux m = turn m (serialReport (transmitId m) (m .serial) mux)
 
 -- "All else, F0 included, gets no reply. None of these requests, answered or not, touches a pending challenge"
-abbrev pub outsideBy : Message → Pending → Stamp → Frame → Monitor → Turn
-outsideBy Unlock pending at f m = unlocked at m
-outsideBy Answer pending at f m = answered pending at f m
-outsideBy (SerialRequest mux) pending at f m = serialAsked mux m
-outsideBy (Read s) pending at f m = ignored m
-outsideBy (Write s v) pending at f m = ignored m
-outsideBy Commit pending at f m = ignored m
-outsideBy Other pending at f m = ignored m
-
-abbrev pub outside : Pending → Stamp → Frame → Monitor → Turn
-outside pending at f m = outsideBy (message f) pending at f m
+abbrev pub outside : Message → Pending → Stamp → Frame → Monitor → Turn
+outside Unlock pending at f m = unlocked at m
+outside Answer pending at f m = answered pending at f m
+outside (SerialRequest mux) pending at f m = serialAsked mux m
+outside (Read s) pending at f m = ignored m
+outside (Write s v) pending at f m = ignored m
+outside Commit pending at f m = ignored m
+outside Other pending at f m = ignored m
 
 -- ---- in a session
 
@@ -127,17 +124,14 @@ committed true at draft m = turn (started at draft m) (ack (transmitId m))
 committed false at draft m = turn (started at (m .stored) m) (nak (transmitId m))
 
 -- "Anything else, unlock and answer included: NAK, session goes on"
-abbrev pub insideBy : Message → Settings → Stamp → Bool → Monitor → Turn
-insideBy (Read s) draft at storing m = wasRead s at draft m
-insideBy (Write s v) draft at storing m = written s v at draft m
-insideBy Commit draft at storing m = committed storing at draft m
-insideBy Unlock draft at storing m = refused at draft m
-insideBy Answer draft at storing m = refused at draft m
-insideBy (SerialRequest mux) draft at storing m = refused at draft m
-insideBy Other draft at storing m = refused at draft m
-
-abbrev pub inside : Settings → Stamp → Bool → Frame → Monitor → Turn
-inside draft at storing f m = insideBy (message f) draft at storing m
+abbrev pub inside : Message → Settings → Stamp → Bool → Monitor → Turn
+inside (Read s) draft at storing m = wasRead s at draft m
+inside (Write s v) draft at storing m = written s v at draft m
+inside Commit draft at storing m = committed storing at draft m
+inside Unlock draft at storing m = refused at draft m
+inside Answer draft at storing m = refused at draft m
+inside (SerialRequest mux) draft at storing m = refused at draft m
+inside Other draft at storing m = refused at draft m
 
 -- ---- events
 
@@ -146,8 +140,8 @@ abbrev pub heard : Frame → Monitor → Bool
 heard f m = f .extended && eqb (f .identifier) (m .stored .receive)
 
 abbrev pub metBy : Phase → Stamp → Bool → Frame → Monitor → Turn
-metBy (Outside pending) at storing f m = outside pending at f m
-metBy (InSession s) at storing f m = inside (s .draft) at storing f m
+metBy (Outside pending) at storing f m = outside (message f) pending at f m
+metBy (InSession s) at storing f m = inside (message f) (s .draft) at storing m
 
 -- a heard frame
 abbrev pub met : Stamp → Bool → Frame → Monitor → Turn

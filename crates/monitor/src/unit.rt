@@ -232,10 +232,9 @@ fn serial_request(m: Monitor, mux: u8) -> Turn
     }
 }
 
-fn meet_outside(m: Monitor, pending: Pending, at: Stamp, f: Frame) -> Turn
-    ensures { λ r. ⌜ r ≡ outside pending at f m ⌝ }
+fn meet_outside(m: Monitor, message: Message, pending: Pending, at: Stamp, f: Frame) -> Turn
+    ensures { λ r. ⌜ r ≡ outside message pending at f m ⌝ }
 {
-    let message = message_of(f);
     match message {
         Message::Unlock => unlock(m, at),
         Message::Answer => answer(m, pending, at, f),
@@ -298,10 +297,9 @@ fn commit(m: Monitor, draft: Settings, at: Stamp, storing: bool) -> Turn
     }
 }
 
-fn meet_inside(m: Monitor, draft: Settings, at: Stamp, storing: bool, f: Frame) -> Turn
-    ensures { λ r. ⌜ r ≡ inside draft at storing f m ⌝ }
+fn meet_inside(m: Monitor, message: Message, draft: Settings, at: Stamp, storing: bool) -> Turn
+    ensures { λ r. ⌜ r ≡ inside message draft at storing m ⌝ }
 {
-    let message = message_of(f);
     match message {
         Message::Read(setting) => read(m, draft, at, setting),
         Message::Write(setting, value) => write(m, draft, at, setting, value),
@@ -325,10 +323,11 @@ fn is_heard(m: Monitor, f: Frame) -> bool
 fn meet(m: Monitor, at: Stamp, storing: bool, f: Frame) -> Turn
     ensures { λ r. ⌜ r ≡ met at storing f m ⌝ }
 {
+    let message = message_of(f);
     let phase = m.phase;
     match phase {
-        Phase::Outside(pending) => meet_outside(m, pending, at, f),
-        Phase::InSession(s) => meet_inside(m, s.draft, at, storing, f),
+        Phase::Outside(pending) => meet_outside(m, message, pending, at, f),
+        Phase::InSession(s) => meet_inside(m, message, s.draft, at, storing),
     }
 }
 

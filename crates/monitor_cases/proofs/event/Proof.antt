@@ -2,7 +2,6 @@
 use mathlib.Core.Path.{sym, ap, _∙_}
 use mathlib.Core.Bool.{Bool}
 use Rattle.monitor_cases.specs.Places.{eventBy}
-use borrow.Author.Needs.{needs}
 use Rattle.monitor_cases.proofs.event.Statement.{statement}
 use Rattle.monitor_cases.proofs.event.Tie as tie
 
