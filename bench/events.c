@@ -1,4 +1,5 @@
-/* The sessions of crates/monitor_bench on a plain state machine, as one would write it by hand. Prints the same sum. */
+/* The sessions of crates/monitor_bench on a plain state machine, as one would write it by hand. Prints the same sum.
+   The monitor is changed in place; with -DBY_VALUE it is passed and returned, as in the crate. The calls are those of a library: not inlined. */
 #include <stdbool.h>
 #include <stdint.h>
 #include <stdio.h>
@@ -14,6 +15,12 @@ typedef struct {
     uint32_t start, since, last;
     enum Phase phase;
 } Monitor;
+
+#ifdef BY_VALUE
+#define LIBRARY static
+#else
+#define LIBRARY __attribute__((noinline)) static
+#endif
 
 static const uint8_t key[7] = {0x53, 0x4E, 0x44, 0x53, 0x49, 0x4D, 0x42};
 
@@ -93,7 +100,7 @@ static void inside(Monitor *m, uint32_t at, bool storing, const Frame *f, Frame 
 }
 
 /* returns the refusal, 0 if none; the reply has length 0 if there is none */
-static int frame_event(Monitor *m, uint32_t at, bool storing, const Frame *f, Frame *reply) {
+LIBRARY int frame_event(Monitor *m, uint32_t at, bool storing, const Frame *f, Frame *reply) {
     int why = refused(m, at, f);
     *reply = (Frame){0};
     if (why) return why;
@@ -104,19 +111,40 @@ static int frame_event(Monitor *m, uint32_t at, bool storing, const Frame *f, Fr
     return 0;
 }
 
-static int reset_event(Monitor *m, uint32_t at) {
+LIBRARY int reset_event(Monitor *m, uint32_t at) {
     int why = refused(m, at, NULL);
     if (!why) { m->last = at; start(m, at); }
     return why;
 }
+
+typedef struct { int why; Monitor monitor; Frame reply; } Outcome;
+
+#ifdef BY_VALUE
+__attribute__((noinline)) static Outcome framed(Monitor m, uint32_t at, Frame f) {
+    Outcome o;
+    o.why = frame_event(&m, at, true, &f, &o.reply);
+    o.monitor = m;
+    return o;
+}
+__attribute__((noinline)) static Outcome was_reset(Monitor m, uint32_t at) {
+    Outcome o = {.why = reset_event(&m, at)};
+    o.monitor = m;
+    return o;
+}
+#define FRAMED(at, f) (o = framed(o.monitor, at, f))
+#define RESET(at) (o = was_reset(o.monitor, at))
+#else
+#define FRAMED(at, f) (o.why = frame_event(&o.monitor, at, true, &(f), &o.reply))
+#define RESET(at) (o.why = reset_event(&o.monitor, at), o.reply = (Frame){0})
+#endif
 
 static uint64_t counted(uint64_t sum, const Frame *r) {
     return sum % 1099511627776u * 31 + (uint64_t)r->length * 65536 + r->bytes[0] * 256u + r->bytes[4];
 }
 
 int main(void) {
-    Monitor m = {.rating = 1000, .stored = {{0x0A100101, 0x0A100100, 0x00CA0500, 0, 500, 100}}};
-    for (int i = 0; i < 16; i++) m.serial[i] = i;
+    Outcome o = {.monitor = {.rating = 1000, .stored = {{0x0A100101, 0x0A100100, 0x00CA0500, 0, 500, 100}}}};
+    for (int i = 0; i < 16; i++) o.monitor.serial[i] = i;
     uint64_t sum = 0;
     uint32_t at = 0;
     for (int turn = 0; turn < 1000000; turn++, at += 4000) {
@@ -128,12 +156,11 @@ int main(void) {
             {true, 0x0A100101, 1, {0x20}},
             {true, 0x0A100101, 3, {0x14, 0x9A, 0x28}},
         };
-        Frame reply = {0};
-        reset_event(&m, at);
-        sum = counted(sum, &reply);
+        RESET(at);
+        sum = counted(sum, &o.reply);
         for (int i = 0; i < 6; i++) {
-            frame_event(&m, at + 500 * (i + 1), true, &frames[i], &reply);
-            sum = counted(sum, &reply);
+            FRAMED(at + 500 * (i + 1), frames[i]);
+            sum = counted(sum, &o.reply);
         }
     }
     printf("%llu\n", (unsigned long long)sum);
