@@ -2,5 +2,6 @@
 pub mod Times
 pub mod Rules
 pub mod Events
+pub mod Replies
 pub mod Runs
 pub mod Promise

@@ -2,6 +2,7 @@
 use Rattle.monitor.specs.Promise.{Promise}
 use Rattle.monitor.proofs.Events.{handles, powers-on, uptime-told}
 use Rattle.monitor.proofs.Rules.{unheard, starts}
+use Rattle.monitor.proofs.Replies.{outside-replies, session-replies, meets-woken}
 use Rattle.monitor.proofs.Runs.{holds}
 
 pub promise : Promise
@@ -10,7 +11,10 @@ promise =
       events = handles;
       power-on = powers-on;
       uptime = uptime-told;
-      unheard = unheard;
       starts = starts;
+      silence = meets-woken;
+      unheard = unheard;
+      outside = outside-replies;
+      session = session-replies;
       history = holds;
     }

@@ -1,22 +1,21 @@
 -- The rules: silence keeps what is stored, an unheard frame changes nothing more, and a start keeps nothing else. Assumes nothing.
-use Prim.Native.Nat.{ℕ}
-use mathlib.Core.Path.{_≡_, refl, ap, sym, subst, _∙_}
-use mathlib.Core.Bool.{Bool, true, false, cond, _&&_}
+use Prim.Native.Nat.{ℕ, _+_}
+use mathlib.Core.Path.{_≡_, refl, ap, _∙_}
+use mathlib.Core.Bool.{Bool, cond, _&&_}
 use mathlib.Core.List.{List}
 use lib.Dec.{eqb}
+use borrow.Author.Tests.{lt-ltb}
 use Rattle.words.proofs.Tests.{decided}
 use Rattle.codec.specs.declared.frame.Frame.{Frame}
 use Rattle.monitor.specs.declared.time.Stamp.{Stamp}
 use Rattle.maintenance.specs.declared.setting.Settings.{Settings}
-use Rattle.maintenance.specs.declared.message.Message.{Message}
 use Rattle.monitor.specs.declared.unit.Phase.{Phase}
 use Rattle.monitor.specs.declared.unit.Phase.the-variants.{Outside, InSession}
 use Rattle.monitor.specs.declared.unit.Monitor.{Monitor}
-use Rattle.monitor.specs.Times.{later, pastLimit}
+use Rattle.monitor.specs.Times.{pastLimit}
 use Rattle.maintenance.specs.Messages.{quiet}
-use Rattle.monitor.specs.Rules.{turn, startedWith, started, wokenBy, woken, inside, heard, met}
-use Rattle.monitor.specs.Promise.{UnheardChangesNothing, Fresh, StartsAt, Starts}
-use Rattle.maintenance.proofs.Messages.{says}
+use Rattle.monitor.specs.Rules.{turn, startedWith, wokenBy, woken, heard, met}
+use Rattle.monitor.specs.Promise.{UnheardChangesNothing, Fresh, Starts}
 
 woken-stored-by : (phase : Phase) (at : Stamp) (m : Monitor) → wokenBy phase at m .stored ≡ m .stored
 woken-stored-by (Outside pending) at m = refl
@@ -38,14 +37,10 @@ unheard at storing f m h =
 pub fresh : (serial : List ℕ) (rating : ℕ) (stored : Settings) (at : Stamp) → Fresh serial rating stored at (startedWith serial rating stored at)
 fresh serial rating stored at = record { serial = refl; rating = refl; stored = refl; start = refl; locked = refl }
 
-started-at : (at : Stamp) (stored : Settings) (m n : Monitor) → n ≡ started at stored m → StartsAt at stored m n
-started-at at stored m n e = subst (StartsAt at stored m) (sym e) (fresh (m .serial) (m .rating) stored at)
-
 pub starts : (m : Monitor) → Starts m
 starts m =
     record {
-      reset = λ at. fresh (m .serial) (m .rating) (m .stored) at;
-      stored = λ at draft f h. started-at at draft m _ (ap (λ (x : Message). inside x draft at true m .monitor) (says f .commit h));
-      failed = λ at draft f h. started-at at (m .stored) m _ (ap (λ (x : Message). inside x draft at false m .monitor) (says f .commit h));
-      silent = λ s at h t. started-at (later (s .heard) 2000) (m .stored) m _ (ap (λ (p : Phase). wokenBy p at m) h ∙ rw t refl);
+      fresh = λ at k. fresh (m .serial) (m .rating) k at;
+      reset = λ at. refl;
+      silence = λ s at e l. ap (λ (p : Phase). wokenBy p at m) e ∙ rw (lt-ltb (s .heard .0 + 2000) (at .0) l) refl;
     }

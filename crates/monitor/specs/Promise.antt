@@ -1,5 +1,5 @@
 -- What the monitor promises, for every monitor, every event and every history there is. `proofs/Promise` proves it.
-use Prim.Native.Nat.{ℕ, _-_, _/_, _<_, _≤_}
+use Prim.Native.Nat.{ℕ, _+_, _-_, _/_, _<_, _≤_}
 use mathlib.Core.Path.{_≡_}
 use mathlib.Core.Bool.{Bool, true, false}
 use mathlib.Core.List.{List, []}
@@ -9,14 +9,16 @@ use Rattle.monitor.specs.declared.time.Stamp.{Stamp}
 use Rattle.maintenance.specs.declared.setting.Settings.{Settings}
 use Rattle.maintenance.specs.declared.message.Reply.{Reply}
 use Rattle.monitor.specs.declared.unit.Session.{Session}
+use Rattle.monitor.specs.declared.unit.Pending.{Pending}
 use Rattle.monitor.specs.declared.unit.Pending.the-variants.{Nothing}
 use Rattle.monitor.specs.declared.unit.Phase.the-variants.{Outside, InSession}
 use Rattle.monitor.specs.declared.unit.Monitor.{Monitor}
 use Rattle.monitor.specs.declared.bench.Bench.{Bench}
-use Rattle.monitor.specs.Times.{later, pastLimit}
+use Rattle.monitor.specs.Times.{later}
 use Rattle.maintenance.specs.Settings.{accepted}
-use Rattle.maintenance.specs.Messages.{isCommit, message, quiet as noReply}
-use Rattle.monitor.specs.Rules.{turn, woken, heard, framed, inside, wasReset}
+use Rattle.maintenance.specs.Messages.{quiet as noReply}
+use Rattle.monitor.specs.Rules.{turn, started, woken, heard, framed, wasReset}
+use Rattle.monitor.specs.Replies.{OutsideReplies, SessionReplies}
 use Rattle.monitor.specs.Events.{Event, PowerOn, IsAccepted, stampOf, step, answeredTo, poweredOn, uptimeAsked, benchAt, after}
 use Rattle.monitor.specs.Answers.{on, ticks, givenReply, toldOutcome, toldPowerOn, toldUptime, eventConditions, powerOnConditions, uptimeConditions}
 
@@ -50,16 +52,15 @@ pub record PowersOn (p : PowerOn) : Type 0 where
 abbrev pub UnheardChangesNothing : Type 0
 UnheardChangesNothing = (at : Stamp) (storing : Bool) (f : Frame) (m : Monitor) → heard f m ≡ false → framed at storing f m ≡ turn (woken at m) noReply
 
--- the same unit starts again
-abbrev pub StartsAt : Stamp → Settings → Monitor → Monitor → Type 0
-StartsAt at stored m n = Fresh (m .serial) (m .rating) stored at n
+-- "and meets the event as locked": a frame is met as if the silence had come on its own
+abbrev pub MeetsAsWoken : Type 0
+MeetsAsWoken = (at : Stamp) (storing : Bool) (f : Frame) (m : Monitor) → framed at storing f m ≡ framed at storing f (woken at m)
 
--- the starts: by reset, by a commit whether storage works or not, by silence
+-- every start is fresh; a reset is one, and so is a silence of more than 2,000 ms in a session
 pub record Starts (m : Monitor) : Type 0 where
-  pub reset : (at : Stamp) → StartsAt at (m .stored) m (wasReset at m .monitor)
-  pub stored : (at : Stamp) (draft : Settings) (f : Frame) → isCommit f ≡ true → StartsAt at draft m (inside (message f) draft at true m .monitor)
-  pub failed : (at : Stamp) (draft : Settings) (f : Frame) → isCommit f ≡ true → StartsAt at (m .stored) m (inside (message f) draft at false m .monitor)
-  pub silent : (s : Session) (at : Stamp) → m .phase ≡ InSession s → pastLimit (s .heard) 2000 at ≡ true → StartsAt (later (s .heard) 2000) (m .stored) m (woken at m)
+  pub fresh : (at : Stamp) (k : Settings) → Fresh (m .serial) (m .rating) k at (started at k m)
+  pub reset : (at : Stamp) → wasReset at m ≡ turn (started at (m .stored) m) noReply
+  pub silence : (s : Session) (at : Stamp) → m .phase ≡ InSession s → s .heard .0 + 2000 < at .0 → woken at m ≡ started (later (s .heard) 2000) (m .stored) m
 
 -- ---- after any history of events
 
@@ -87,6 +88,9 @@ pub record Promise : Type 0 where
   pub events : (e : Event) (b : Bench) → Handles e b
   pub power-on : (p : PowerOn) → PowersOn p
   pub uptime : (at : Stamp) (b : Bench) → Answers (toldUptime (uptimeAsked at b)) (uptimeConditions at b) (ticks ((at .0 - woken at (b .monitor) .start .0) / 10))
-  pub unheard : UnheardChangesNothing
   pub starts : (m : Monitor) → Starts m
+  pub silence : MeetsAsWoken
+  pub unheard : UnheardChangesNothing
+  pub outside : (m : Monitor) (pending : Pending) (at : Stamp) (storing : Bool) (f : Frame) → m .phase ≡ Outside pending → heard f m ≡ true → OutsideReplies m pending at storing f
+  pub session : (m : Monitor) (s : Session) (at : Stamp) (storing : Bool) (f : Frame) → m .phase ≡ InSession s → at .0 ≤ s .heard .0 + 2000 → heard f m ≡ true → SessionReplies m s at storing f
   pub history : (p : PowerOn) → IsAccepted p → (h : List Event) → Holds p h
