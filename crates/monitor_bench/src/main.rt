@@ -42,9 +42,9 @@ fn counted(o: Outcome, sum: u64) -> Run {
     }
 }
 
-fn framed(r: Run, at: u32, f: Frame) -> Run {
+fn framed(r: Run, at: Stamp, f: Frame) -> Run {
     let bench = r.bench;
-    counted(frame_event(bench, Stamp(at), true, f), r.sum)
+    counted(frame_event(bench, at, true, f), r.sum)
 }
 
 // A reset, and a session that writes and reads the fault level and commits it, with a frame of another node in between.
@@ -53,20 +53,32 @@ fn session(start: Run, turn: u32) -> Run {
     let level = (turn % 256) as u8;
     let bench = start.bench;
     let a = counted(reset_event(bench, Stamp(at)), start.sum);
-    let b = framed(a, at + 500, host(3, [0x14, 0x28, 0xD5, 0, 0, 0, 0, 0]));
+    let b = framed(
+        a,
+        Stamp(at + 500),
+        host(3, [0x14, 0x28, 0xD5, 0, 0, 0, 0, 0]),
+    );
     let c = framed(
         b,
-        at + 1000,
+        Stamp(at + 1000),
         host(8, [0x14, 0x53, 0x4F, 0x46, 0x50, 0x4D, 0x48, 0x44]),
     );
     let d = framed(
         c,
-        at + 1500,
+        Stamp(at + 1500),
         on(0x0A100102, 3, [0x14, 0x9A, 0x28, 0, 0, 0, 0, 0]),
     );
-    let e = framed(d, at + 2000, host(5, [0x20, 0, 0, 0, level, 0, 0, 0]));
-    let f = framed(e, at + 2500, host(1, [0x20, 0, 0, 0, 0, 0, 0, 0]));
-    framed(f, at + 3000, host(3, [0x14, 0x9A, 0x28, 0, 0, 0, 0, 0]))
+    let e = framed(
+        d,
+        Stamp(at + 2000),
+        host(5, [0x20, 0, 0, 0, level, 0, 0, 0]),
+    );
+    let f = framed(e, Stamp(at + 2500), host(1, [0x20, 0, 0, 0, 0, 0, 0, 0]));
+    framed(
+        f,
+        Stamp(at + 3000),
+        host(3, [0x14, 0x9A, 0x28, 0, 0, 0, 0, 0]),
+    )
 }
 
 fn powered() -> Bench {
