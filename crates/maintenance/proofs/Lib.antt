@@ -1,4 +1,5 @@
 -- The laws of settings and messages, and the proofs of their promise.
 pub mod Messages
 pub mod Settings
+pub mod SerialWords
 pub mod Promise

@@ -2,6 +2,7 @@
 use Rattle.maintenance.specs.Promise.{Promise}
 use Rattle.maintenance.proofs.Messages.{says, right-means}
 use Rattle.maintenance.proofs.Settings.{negative}
+use Rattle.maintenance.proofs.SerialWords.{serial-words}
 
 pub promise : Promise
 promise =
@@ -9,4 +10,5 @@ promise =
       messages = says;
       right = right-means;
       negative = negative;
+      serial-words = serial-words;
     }

@@ -2,14 +2,15 @@
 use Prim.Native.Nat.{ℕ, _≤_}
 use mathlib.Core.Path.{_≡_}
 use mathlib.Core.Bool.{true, false}
-use mathlib.Core.List.{List}
+use mathlib.Core.List.{List, _∷_}
 use mathlib.Core.Logic.{_↔_, _⊎_}
+use Rattle.words.specs.Words.{Bytes}
 use Rattle.codec.specs.declared.frame.Frame.{Frame}
 use Rattle.codec.specs.Table.{part, numberAt}
 use Rattle.maintenance.specs.declared.setting.Setting.{Setting}
 use Rattle.maintenance.specs.declared.message.Message.the-variants.{Unlock, Commit, Answer, SerialRequest, Read, Write}
 use Rattle.maintenance.specs.Settings.{code, legal}
-use Rattle.maintenance.specs.Messages.{byte, isUnlock, isCommit, isAnswer, message, challengeOf, answerTo, isRight}
+use Rattle.maintenance.specs.Messages.{byte, isUnlock, isCommit, isAnswer, message, challengeOf, answerTo, isRight, says, serialReport}
 
 -- ---- messages
 
@@ -30,9 +31,17 @@ RightMeans = (serial : List ℕ) (f : Frame) → isRight serial f ≡ true ↔ p
 abbrev pub NegativeRefused : Type 0
 NegativeRefused = (rating : ℕ) (s : Setting) (v : ℕ) → rating ≤ 65535 → 2147483648 ≤ v → legal rating s v ≡ false
 
+-- "08 the last four serial bytes, 0B the first four": the bytes of each serial word, as they stand
+pub record SerialWords (transmit : ℕ) (serial : List ℕ) : Type 0 where
+  pub last : serialReport transmit serial 0x08 ≡ says transmit (0x08 ∷ part serial 12 4)
+  pub third : serialReport transmit serial 0x09 ≡ says transmit (0x09 ∷ part serial 8 4)
+  pub second : serialReport transmit serial 0x0A ≡ says transmit (0x0A ∷ part serial 4 4)
+  pub first : serialReport transmit serial 0x0B ≡ says transmit (0x0B ∷ part serial 0 4)
+
 -- ---- the promise
 
 pub record Promise : Type 0 where
   pub messages : (f : Frame) → Says f
   pub right : RightMeans
   pub negative : NegativeRefused
+  pub serial-words : (transmit : ℕ) (serial : List ℕ) → transmit ≤ 0x1FFFFFFF → Bytes serial → SerialWords transmit serial
