@@ -1,4 +1,7 @@
 // Programs the fault level a million times, seven events a time, and prints a sum over every reply: bench/events times it beside plain C.
+ghost use mathlib.Core.Path.{_≡_};
+ghost use Prim.Native.Nat.{_%_, _*_};
+ghost use Rattle.monitor_bench.specs.Sessions.{frameOn, fromHost, counts, plays, sessionFrom, unit};
 use codec::frame::Frame;
 use maintenance::setting::Settings;
 use monitor::bench::Bench;
@@ -16,7 +19,9 @@ struct Run {
     sum: u64,
 }
 
-fn on(identifier: u32, length: u8, bytes: [u8; 8]) -> Frame {
+fn on(identifier: u32, length: u8, bytes: [u8; 8]) -> Frame
+    ensures { λ r. ⌜ r ≡ frameOn identifier length bytes ⌝ }
+{
     Frame {
         extended: true,
         identifier,
@@ -25,12 +30,16 @@ fn on(identifier: u32, length: u8, bytes: [u8; 8]) -> Frame {
     }
 }
 
-fn host(length: u8, bytes: [u8; 8]) -> Frame {
+fn host(length: u8, bytes: [u8; 8]) -> Frame
+    ensures { λ r. ⌜ r ≡ fromHost length bytes ⌝ }
+{
     on(0x0A100101, length, bytes)
 }
 
 // The sum over an outcome: the length of its reply, and the reply's bytes 0 and 4.
-fn counted(o: Outcome, sum: u64) -> Run {
+fn counted(o: Outcome, sum: u64) -> Run
+    ensures { λ r. ⌜ r ≡ counts o sum ⌝ }
+{
     let bench = o.bench;
     let reply = o.reply;
     let f = reply.frame;
@@ -42,13 +51,17 @@ fn counted(o: Outcome, sum: u64) -> Run {
     }
 }
 
-fn framed(r: Run, at: Stamp, f: Frame) -> Run {
+fn framed(r: Run, at: Stamp, f: Frame) -> Run
+    ensures { λ n. ⌜ n ≡ plays f at r ⌝ }
+{
     let bench = r.bench;
     counted(frame_event(bench, at, true, f), r.sum)
 }
 
 // A reset, and a session that writes and reads the fault level and commits it, with a frame of another node in between.
-fn session(start: Run, turn: u32) -> Run {
+fn session(start: Run, turn: u32) -> Run
+    ensures { λ r. ⌜ r ≡ sessionFrom (turn % 1000000 * 4000) (turn % 256) start ⌝ }
+{
     let at = turn % 1000000 * 4000;
     let level = (turn % 256) as u8;
     let bench = start.bench;
@@ -81,7 +94,9 @@ fn session(start: Run, turn: u32) -> Run {
     )
 }
 
-fn powered() -> Bench {
+fn powered() -> Bench
+    ensures { λ r. ⌜ r ≡ unit ⌝ }
+{
     let defaults = Settings {
         receive: 0x0A100101,
         transmit: 0x0A100100,
