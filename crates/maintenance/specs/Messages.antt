@@ -15,6 +15,7 @@ use Rattle.codec.specs.Table.{part, numberAt}
 use Rattle.codec.specs.Building.{buildReport}
 use Rattle.maintenance.specs.declared.setting.Setting.{Setting}
 use Rattle.maintenance.specs.declared.setting.Named.{Named}
+use Rattle.maintenance.specs.declared.setting.Settings.{Settings}
 use Rattle.maintenance.specs.declared.setting.Named.the-variants.{Unknown, Known}
 use Rattle.maintenance.specs.declared.message.Message.{Message}
 use Rattle.maintenance.specs.declared.message.Message.the-variants.{Other, Unlock, Commit, Answer, SerialRequest, Read, Write}
@@ -61,6 +62,10 @@ message f =
     (cond (eqb (f .length) 1) (asRead (settingOf (byte f 0)))
     (cond (eqb (f .length) 5) (asWrite (settingOf (byte f 0)) (numberAt (f .bytes) 1 4))
     Other)))))
+
+-- "A frame is heard when it is extended and its identifier equals the stored receive identifier."
+abbrev pub heardOn : Settings → Frame → Bool
+heardOn stored f = f .extended && eqb (f .identifier) (stored .receive)
 
 -- ---- the challenge and its answer
 

@@ -17,7 +17,8 @@ use Rattle.monitor.specs.Times.{earlier}
 use Rattle.maintenance.specs.Settings.{accepted}
 use Rattle.maintenance.specs.Messages.{quiet as noReply}
 use Rattle.monitor.specs.Rules.{woken, uptimeOf}
-use Rattle.monitor.specs.Events.{Event, PowerOn, beyond, early, stampOf, step, refusedBy, acceptedAt, answeredTo, poweredOn, uptimeAsked, benchAt, after}
+use Rattle.monitor.specs.Events.{Event, PowerOn, beyond, stampOf}
+use Rattle.monitor.specs.Bench.{early, step, refusedBy, acceptedAt, answeredTo, poweredOn, uptimeAsked, benchAt, after}
 use Rattle.monitor.specs.Answers.{on, ticks, givenReply, toldOutcome, toldPowerOn, toldUptime, eventConditions, powerOnConditions, uptimeConditions}
 use Rattle.monitor.specs.Promise.{Handles, PowersOn}
 use Rattle.monitor.proofs.Rules.{fresh}

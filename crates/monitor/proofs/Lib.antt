@@ -4,4 +4,10 @@ pub mod Rules
 pub mod Events
 pub mod Replies
 pub mod Runs
+pub mod Looking
+pub mod Sessions
+pub mod Starts
+pub mod Demand
+pub mod History
+pub mod Reached
 pub mod Promise

@@ -4,6 +4,7 @@ use mathlib.Core.Path.{_≡_, refl, sym, ap, _∙_}
 use mathlib.Core.Bool.{Bool, true, false, cond, _&&_}
 use lib.Dec.{eqb}
 use borrow.Author.Tests.{le-ltb, lt-ltb}
+use native.Mathlib.Omega.{arith}
 use Rattle.words.proofs.Tests.{decided, false-true}
 use Rattle.codec.specs.declared.frame.Frame.{Frame}
 use Rattle.codec.specs.Table.{numberAt}
@@ -23,6 +24,7 @@ use Rattle.monitor.specs.declared.unit.Monitor.{Monitor}
 use Rattle.monitor.specs.Times.{later, pastLimit}
 use Rattle.monitor.specs.Rules.{started, wokenBy, woken, ignored, answered, outside, refused, committed, inside, heard, metBy, met, frameMet, framed}
 use Rattle.monitor.specs.Promise.{MeetsAsWoken}
+use Rattle.monitor.proofs.Rules.{woken-later}
 use Rattle.monitor.specs.Replies.{known, coded, Right, OutsideReplies, SessionReplies}
 
 -- ---- a heard frame is met in the phase that silence leaves
@@ -121,12 +123,5 @@ module _ (m : Monitor) (s : Session) (at : Stamp) (storing : Bool) (f : Frame) (
 
 -- ---- after a silence
 
-woken-twice : (at : Stamp) (m : Monitor) (phase : Phase) → m .phase ≡ phase → woken at (woken at m) ≡ woken at m
-woken-twice at m (Outside pending) e = ap (woken at) (ap (λ (p : Phase). wokenBy p at m) e)
-woken-twice at m (InSession s) e =
-    decided (pastLimit (s .heard) 2000 at)
-    (λ t. let w : woken at m ≡ started (later (s .heard) 2000) (m .stored) m = ap (λ (p : Phase). wokenBy p at m) e ∙ rw t refl in ap (woken at) w ∙ sym w)
-    (λ t. let w : woken at m ≡ m = ap (λ (p : Phase). wokenBy p at m) e ∙ rw t refl in ap (woken at) w)
-
 pub meets-woken : MeetsAsWoken
-meets-woken at storing f m = ap (frameMet at storing f) (sym (woken-twice at m (m .phase) refl))
+meets-woken at storing f m = ap (frameMet at storing f) (sym (woken-later at at m (omega arith)))

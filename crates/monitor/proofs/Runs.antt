@@ -24,7 +24,8 @@ use Rattle.monitor.specs.Times.{later, pastLimit}
 use Rattle.maintenance.specs.Settings.{legal, accepted, withValue}
 use Rattle.maintenance.specs.Messages.{message, isRight, quiet, serialReport}
 use Rattle.monitor.specs.Rules.{inPhase, transmitId, started, wokenBy, woken, unlocked, sessionAt, answered, outside, inside, heard, metBy, frameMet}
-use Rattle.monitor.specs.Events.{Event, frameEvent, resetEvent, PowerOn, IsAccepted, stampOf, beyond, early, step, answeredTo, after}
+use Rattle.monitor.specs.Events.{Event, frameEvent, resetEvent, PowerOn, IsAccepted, stampOf, beyond}
+use Rattle.monitor.specs.Bench.{early, step, answeredTo, after}
 use Rattle.monitor.specs.Promise.{OnIdentifier, Holds}
 use Rattle.maintenance.proofs.Messages.{Listed, serial-listed}
 use Rattle.maintenance.proofs.Settings.{accepted-parts, written-accepted, level-some, voltage-below}

@@ -17,7 +17,8 @@ use Rattle.monitor.specs.declared.bench.UptimeReading.{UptimeReading}
 use Rattle.monitor.specs.declared.bench.UptimeReading.the-variants.{Read as Ticked, Refused as NotTicked}
 use Rattle.monitor.specs.Times.{earlier}
 use Rattle.maintenance.specs.Settings.{accepted}
-use Rattle.monitor.specs.Events.{Event, PowerOn, beyond, early}
+use Rattle.monitor.specs.Events.{Event, PowerOn, beyond}
+use Rattle.monitor.specs.Bench.{early}
 
 -- the monitor is on; no reply; the identifier and the bytes of a reply; the ticks of the uptime
 pub data Given : Type 0 where

@@ -2,6 +2,10 @@
 pub mod Times
 pub mod Rules
 pub mod Events
+pub mod Bench
+pub mod History
+pub mod Demand
+pub mod Reached
 pub mod Replies
 pub mod Answers
 pub mod Promise

@@ -19,7 +19,8 @@ use Rattle.maintenance.specs.Settings.{accepted}
 use Rattle.maintenance.specs.Messages.{quiet as noReply}
 use Rattle.monitor.specs.Rules.{turn, started, woken, heard, framed, wasReset}
 use Rattle.monitor.specs.Replies.{OutsideReplies, SessionReplies}
-use Rattle.monitor.specs.Events.{Event, PowerOn, IsAccepted, stampOf, step, answeredTo, poweredOn, uptimeAsked, benchAt, after}
+use Rattle.monitor.specs.Events.{Event, PowerOn, IsAccepted, stampOf}
+use Rattle.monitor.specs.Bench.{step, answeredTo, poweredOn, uptimeAsked, benchAt, after}
 use Rattle.monitor.specs.Answers.{on, ticks, givenReply, toldOutcome, toldPowerOn, toldUptime, eventConditions, powerOnConditions, uptimeConditions}
 
 -- ---- answered or refused

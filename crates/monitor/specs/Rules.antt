@@ -3,7 +3,6 @@
 use Prim.Native.Nat.{ℕ}
 use mathlib.Core.Bool.{Bool, true, false, not, cond, _&&_}
 use mathlib.Core.List.{List}
-use lib.Dec.{eqb}
 use Rattle.codec.specs.declared.frame.Frame.{Frame}
 use Rattle.monitor.specs.declared.time.Stamp.{Stamp}
 use Rattle.monitor.specs.declared.time.Ticks.{Ticks}
@@ -20,7 +19,7 @@ use Rattle.monitor.specs.declared.unit.Monitor.{Monitor}
 use Rattle.monitor.specs.declared.unit.Turn.{Turn}
 use Rattle.monitor.specs.Times.{later, pastLimit, ticksBetween}
 use Rattle.maintenance.specs.Settings.{legal, valueOf, withValue}
-use Rattle.maintenance.specs.Messages.{message, isRight, quiet, ack, nak, challenged, shown, serialReport}
+use Rattle.maintenance.specs.Messages.{message, heardOn, isRight, quiet, ack, nak, challenged, shown, serialReport}
 
 abbrev pub turn : Monitor → Reply → Turn
 turn m reply = record { monitor = m; reply = reply }
@@ -135,9 +134,8 @@ inside Other draft at storing m = refused at draft m
 
 -- ---- events
 
--- "A frame is heard when it is extended and its identifier equals the stored receive identifier."
 abbrev pub heard : Frame → Monitor → Bool
-heard f m = f .extended && eqb (f .identifier) (m .stored .receive)
+heard f m = heardOn (m .stored) f
 
 abbrev pub metBy : Phase → Stamp → Bool → Frame → Monitor → Turn
 metBy (Outside pending) at storing f m = outside (message f) pending at f m

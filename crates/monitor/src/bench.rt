@@ -1,6 +1,8 @@
 // The monitor on the bench: with the last accepted stamp it gives the refusals. A refused call returns the bench it was given.
 ghost use mathlib.Core.Path.{_≡_};
-ghost use Rattle.monitor.specs.Events.{frameEvent, resetEvent, noBench, poweredOn, answeredTo, refusedBy, acceptedAt, uptimeAsked};
+ghost use Rattle.monitor.specs.Events.{frameEvent, resetEvent};
+ghost use Rattle.monitor.specs.Bench.{noBench, refusedBy, acceptedAt, uptimeAsked};
+ghost use Rattle.monitor.specs.Reached.{EventAnswered, PowerOnAnswered, powerOnWith};
 use crate::time::Stamp;
 use crate::time::Ticks;
 use crate::time::is_earlier;
@@ -75,7 +77,7 @@ pub fn no_bench() -> Bench
 }
 
 pub fn power_on(at: Stamp, serial: [u8; 16], rating: u16, settings: Settings) -> PoweredOn
-    ensures { λ r. ⌜ r ≡ poweredOn at serial rating settings ⌝ }
+    ensures { λ r. ⌜ PowerOnAnswered (powerOnWith at serial rating settings) r ⌝ }
 {
     let good = is_accepted(rating, settings);
     if good {
@@ -118,7 +120,7 @@ fn accepted(turn: Turn, at: Stamp) -> Outcome
 }
 
 pub fn frame_event(b: Bench, at: Stamp, storing: bool, f: Frame) -> Outcome
-    ensures { λ r. ⌜ r ≡ answeredTo (frameEvent at storing f) b ⌝ }
+    ensures { λ r. ⌜ EventAnswered (frameEvent at storing f) b r ⌝ }
 {
     let over = over_limits(f);
     if over {
@@ -132,7 +134,7 @@ pub fn frame_event(b: Bench, at: Stamp, storing: bool, f: Frame) -> Outcome
 }
 
 pub fn reset_event(b: Bench, at: Stamp) -> Outcome
-    ensures { λ r. ⌜ r ≡ answeredTo (resetEvent at) b ⌝ }
+    ensures { λ r. ⌜ EventAnswered (resetEvent at) b r ⌝ }
 {
     let early = is_earlier(at, b.last);
     if early {

@@ -10,7 +10,8 @@ use Rattle.maintenance.specs.declared.setting.Settings.{Settings}
 use Rattle.monitor.specs.declared.time.Stamp.{Stamp}
 use Rattle.monitor.specs.declared.bench.Bench.{Bench}
 use Rattle.monitor.specs.declared.bench.Outcome.{Outcome}
-use Rattle.monitor.specs.Events.{frameEvent, resetEvent, answeredTo, poweredOn}
+use Rattle.monitor.specs.Events.{frameEvent, resetEvent}
+use Rattle.monitor.specs.Bench.{answeredTo, poweredOn}
 use Rattle.monitor_bench.specs.declared.Run.{Run}
 
 abbrev pub frameOn : ℕ → ℕ → List ℕ → Frame

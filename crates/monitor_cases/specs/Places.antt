@@ -7,7 +7,7 @@ use Rattle.codec.specs.declared.frame.Answer.{Answer}
 use Rattle.codec.specs.declared.frame.Answer.the-variants.{Accepted, Refused}
 use Rattle.monitor.specs.declared.bench.Bench.{Bench}
 use Rattle.monitor.specs.declared.bench.PoweredOn.{PoweredOn}
-use Rattle.monitor.specs.Events.{answeredTo}
+use Rattle.monitor.specs.Bench.{answeredTo}
 use Rattle.monitor_cases.specs.declared.Place.{Place}
 use Rattle.monitor_cases.specs.Cases.{eventIn}
 

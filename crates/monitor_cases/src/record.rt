@@ -1,7 +1,7 @@
 // A record of a cases file taken apart.
 ghost use mathlib.Core.Path.{_≡_};
 ghost use Rattle.codec.specs.Table.{part, numberAt};
-ghost use Rattle.monitor.specs.Events.{answeredTo, poweredOn};
+ghost use Rattle.monitor.specs.Bench.{answeredTo, poweredOn};
 ghost use Rattle.monitor_cases.specs.Cases.{knownCase, stampIn, frameIn, settingsIn, eventIn};
 use codec::frame::Frame;
 use maintenance::setting::Settings;

@@ -1,0 +1,229 @@
+-- The monitor is what the history says: whatever the run, silence counted, its parts are the answers of the reading that looks back.
+-- Assumes nothing.
+use Prim.Native.Nat.{ℕ, _+_, _≤_, _<_}
+use mathlib.Core.Path.{_≡_, refl, sym, ap, _∙_}
+use mathlib.Core.Bool.{Bool, true, false, not, cond, _&&_}
+use mathlib.Core.List.{List, [], _∷_}
+use mathlib.Core.Option.{Option, none, some, Option·getD}
+use lib.Dec.{leb, ltb}
+use borrow.Author.Tests.{leb-true, leb-false, le-ltb, lt-ltb, ltb-true, ltb-false, le-leb, lt-leb}
+use native.Mathlib.Omega.{arith}
+use Rattle.words.proofs.Tests.{decided}
+use Rattle.codec.specs.declared.frame.Frame.{Frame}
+use Rattle.maintenance.specs.declared.setting.Setting.{Setting}
+use Rattle.maintenance.specs.declared.setting.Setting.the-variants.{ReceiveId, TransmitId, Speed, Voltage, WarningLevel, FaultLevel}
+use Rattle.maintenance.specs.declared.setting.Settings.{Settings}
+use Rattle.maintenance.specs.declared.message.Message.{Message}
+use Rattle.maintenance.specs.declared.message.Message.the-variants.{Other, Unlock, Commit, Answer, SerialRequest, Read, Write}
+use Rattle.maintenance.specs.Settings.{legal, valueOf, withValue}
+use Rattle.maintenance.specs.Messages.{message, heardOn, isRight, ack, shown}
+use Rattle.monitor.specs.declared.time.Stamp.{Stamp}
+use Rattle.monitor.specs.declared.unit.Pending.{Pending}
+use Rattle.monitor.specs.declared.unit.Pending.the-variants.{Nothing, Since}
+use Rattle.monitor.specs.declared.unit.Phase.{Phase}
+use Rattle.monitor.specs.declared.unit.Phase.the-variants.{Outside, InSession}
+use Rattle.monitor.specs.declared.unit.Monitor.{Monitor}
+use Rattle.monitor.specs.declared.unit.Turn.{Turn}
+use Rattle.monitor.specs.Times.{later, pastLimit}
+use Rattle.monitor.specs.Rules.{inPhase, sessionAt, goesOn, answered, refused, outside, inside, met, frameMet, woken, wasReset}
+use Rattle.monitor.specs.Events.{Event, frameEvent, resetEvent, PowerOn, stampOf, lastStamp, Run}
+use Rattle.monitor.specs.Bench.{step, unitAfter}
+use Rattle.monitor.proofs.Rules.{woken-stored, woken-later, reset-woken}
+use Rattle.monitor.specs.History.{near, timelyUnlock, timelyAnswer, unlocks, answers, commits, writes, leavesOpen, leavesPending, leavesStart, newest, taking, storedAfter, inSession, pendingSince, lastStart, lastWrite, readable, replyToAnswer, replyOutside, replyInside, replyTo}
+
+-- ---- limits of time, as the rules have them
+
+not-below : (a b : ℕ) → not (ltb a b) ≡ leb b a
+not-below a b =
+    decided (ltb a b)
+    (λ t. rw (t, lt-leb b a (ltb-true a b t)) refl)
+    (λ t. rw (t, le-leb b a (ltb-false a b t)) refl)
+
+within : (a b : ℕ) → leb b a ≡ true → ltb a b ≡ false
+within a b t = le-ltb a b (leb-true b a t)
+
+beyond-it : (a b : ℕ) → leb b a ≡ false → ltb a b ≡ true
+beyond-it a b t = lt-ltb a b (leb-false b a t)
+
+-- ---- the monitor of some answers
+
+abbrev pendingOf : Option Stamp → Pending
+pendingOf none = Nothing
+pendingOf (some at) = Since at
+
+abbrev phaseOf : Bool → Stamp → Settings → Option Stamp → Phase
+phaseOf true heard draft pending = InSession (record { heard = heard; draft = draft })
+phaseOf false heard draft pending = Outside (pendingOf pending)
+
+abbrev unitOf : PowerOn → Settings → Stamp → Bool → Stamp → (Setting → Option ℕ) → Option Stamp → Monitor
+unitOf p k start session heard written pending =
+    record { serial = p .serial; rating = p .rating; stored = k; start = start; phase = phaseOf session heard (taking k written) pending }
+
+-- ---- a heard message, whatever was so before it
+
+-- a session that goes on from a stamp, for an event at t
+goes-on : (p : PowerOn) (k : Settings) (start at t : Stamp) (written : Setting → Option ℕ) → woken t (unitOf p k start true at written none) ≡ unitOf p k (cond (not (near at t)) (later at 2000) start) (near at t) at written none
+goes-on p k start at t written =
+    decided (near at t)
+    (λ n. rw (n, within (at .0 + 2000) (t .0) n) refl)
+    (λ n. rw (n, beyond-it (at .0 + 2000) (t .0) n) refl)
+
+-- a write accepted: the draft with it is what is read with it
+takes : (k : Settings) (written : Setting → Option ℕ) (rating : ℕ) (s : Setting) (v : ℕ) → legal rating s v ≡ true → withValue (taking k written) s v ≡ taking k (λ x. newest (writes rating x (Write s v)) (written x))
+takes k written rating ReceiveId v l = rw l refl
+takes k written rating TransmitId v l = rw l refl
+takes k written rating Speed v l = rw l refl
+takes k written rating Voltage v l = rw l refl
+takes k written rating WarningLevel v l = rw l refl
+takes k written rating FaultLevel v l = rw l refl
+
+module _ (p : PowerOn) (k : Settings) (start heard : Stamp) (written : Setting → Option ℕ) (at t : Stamp) (storing : Bool) (f : Frame) where
+  abbrev before : Bool → Option Stamp → Monitor
+  before session pending = unitOf p k start session heard written pending
+
+  -- the monitor that a heard message leaves, by the reading
+  abbrev leaves : Bool → Option Stamp → Message → Monitor
+  leaves session pending x =
+      unitOf p
+      (cond (session && commits x && storing) (taking k written) k)
+      (leavesStart session x (timelyAnswer (p .serial) f pending at) at t start)
+      (leavesOpen session x (timelyAnswer (p .serial) f pending at) && near at t)
+      at
+      (λ s. cond session (newest (writes (p .rating) s x) (written s)) none)
+      (leavesPending session x (timelyUnlock start at) at pending)
+
+  -- ---- in a session
+
+  abbrev draft-at : Settings → Monitor
+  draft-at d = inPhase (sessionAt at d) (before true none)
+
+  inside-leaves : (x : Message) → woken t (inside x (taking k written) at storing (before true none) .monitor) ≡ leaves true none x
+  inside-leaves (Read s) = goes-on p k start at t written
+  inside-leaves (Write s v) =
+      decided (legal (p .rating) s v)
+      (λ l. ap (λ (b : Bool). woken t (cond b (goesOn at (withValue (taking k written) s v) (ack (k .transmit)) (before true none)) (refused at (taking k written) (before true none)) .monitor)) l
+      ∙ (ap (λ (d : Settings). woken t (draft-at d)) (takes k written (p .rating) s v l) ∙ goes-on p k start at t (λ x. newest (writes (p .rating) x (Write s v)) (written x))))
+      (λ l. rw l (goes-on p k start at t written))
+  inside-leaves Commit = decided storing (λ e. rw e refl) (λ e. rw e refl)
+  inside-leaves Unlock = goes-on p k start at t written
+  inside-leaves Answer = goes-on p k start at t written
+  inside-leaves (SerialRequest mux) = goes-on p k start at t written
+  inside-leaves Other = goes-on p k start at t written
+
+  -- ---- outside
+
+  answer-leaves : (pending : Option Stamp) → woken t (answered (pendingOf pending) at f (before false pending) .monitor) ≡ leaves false pending Answer
+  answer-leaves none = refl
+  answer-leaves (some since) =
+      rw (not-below (since .0 + 2000) (at .0))
+      (decided (isRight (p .serial) f && leb (at .0) (since .0 + 2000))
+      (λ n. rw n (goes-on p k start at t (λ s. none)))
+      (λ n. rw n refl))
+
+  outside-leaves : (x : Message) (pending : Option Stamp) → woken t (outside x (pendingOf pending) at f (before false pending) .monitor) ≡ leaves false pending x
+  outside-leaves Unlock pending =
+      decided (timelyUnlock start at)
+      (λ n. rw (n, within (start .0 + 10000) (at .0) n) refl)
+      (λ n. rw (n, beyond-it (start .0 + 10000) (at .0) n) refl)
+  outside-leaves Answer pending = answer-leaves pending
+  outside-leaves Commit pending = refl
+  outside-leaves (SerialRequest mux) pending = refl
+  outside-leaves (Read s) pending = refl
+  outside-leaves (Write s v) pending = refl
+  outside-leaves Other pending = refl
+
+  -- ---- whatever the phase
+
+  met-leaves : (session : Bool) (pending : Option Stamp) → woken t (met at storing f (before session pending) .monitor) ≡ leaves session pending (message f)
+  met-leaves true pending = inside-leaves (message f)
+  met-leaves false pending = outside-leaves (message f) pending
+
+-- ---- after a run
+
+-- the stamp of the last heard message
+lastHeard : PowerOn → List Event → Stamp
+lastHeard p [] = p .at
+lastHeard p (resetEvent at ∷ h) = at
+lastHeard p (frameEvent at storing f ∷ h) = cond (heardOn (storedAfter p h) f) at (lastHeard p h)
+
+-- the monitor that an event at a stamp finds, by the reading
+abbrev found : PowerOn → List Event → Stamp → Monitor
+found p h t = unitOf p (storedAfter p h) (lastStart p h t) (inSession p h t) (lastHeard p h) (λ s. lastWrite p h s) (pendingSince p h)
+
+agrees : (p : PowerOn) (h : List Event) → Run p h → (t : Stamp) → lastStamp p h .0 ≤ t .0 → woken t (unitAfter p h) ≡ found p h t
+unfolding storedAfter lastHeard
+agrees p [] r t l = refl
+agrees p (resetEvent at ∷ h) r t l =
+    ap (λ (m : Turn). woken t (m .monitor)) (reset-woken at (unitAfter p h))
+    ∙ ap (λ (w : Monitor). woken t (wasReset at w .monitor)) (agrees p h (r .1 .1) at (r .1 .0))
+agrees p (frameEvent at storing f ∷ h) r t l =
+    let now : woken at (unitAfter p h) ≡ found p h at = agrees p h (r .1 .1) at (r .1 .0) in
+    ap (λ (w : Monitor). woken t (frameMet at storing f w .monitor)) now
+    ∙ decided (heardOn (storedAfter p h) f)
+    (λ x. rw x (met-leaves p (storedAfter p h) (lastStart p h at) (lastHeard p h) (λ s. lastWrite p h s) at t storing f (inSession p h at) (pendingSince p h)))
+    (λ x. rw x (ap (woken t) (sym now) ∙ (woken-later at t (unitAfter p h) l ∙ agrees p h (r .1 .1) t (let q = r .1 .0 in omega arith))))
+
+-- ---- what is stored
+
+pub unit-stored : (p : PowerOn) (h : List Event) → Run p h → unitAfter p h .stored ≡ storedAfter p h
+unit-stored p h r =
+    sym (woken-stored (lastStamp p h) (unitAfter p h)) ∙ ap (λ (m : Monitor). m .stored) (agrees p h r (lastStamp p h) (omega arith))
+
+-- ---- the last start
+
+pub unit-start : (p : PowerOn) (h : List Event) → Run p h → (t : Stamp) → lastStamp p h .0 ≤ t .0 → woken t (unitAfter p h) .start ≡ lastStart p h t
+unit-start p h r t l = ap (λ (m : Monitor). m .start) (agrees p h r t l)
+
+-- ---- the reply
+
+module _ (p : PowerOn) (h : List Event) (at : Stamp) (storing : Bool) (f : Frame) where
+  abbrev asked : Bool → Option Stamp → Monitor
+  asked session pending = unitOf p (storedAfter p h) (lastStart p h at) session (lastHeard p h) (λ s. lastWrite p h s) pending
+
+  value-shown : (s : Setting) → valueOf (taking (storedAfter p h) (λ x. lastWrite p h x)) s ≡ readable p h s
+  value-shown ReceiveId = refl
+  value-shown TransmitId = refl
+  value-shown Speed = refl
+  value-shown Voltage = refl
+  value-shown WarningLevel = refl
+  value-shown FaultLevel = refl
+
+  says-inside : (x : Message) → inside x (taking (storedAfter p h) (λ s. lastWrite p h s)) at storing (asked true none) .reply ≡ replyInside p h (storedAfter p h .transmit) storing x
+  says-inside (Read s) = ap (λ (v : ℕ). shown (storedAfter p h .transmit) s v) (value-shown s)
+  says-inside (Write s v) = decided (legal (p .rating) s v) (λ l. rw l refl) (λ l. rw l refl)
+  says-inside Commit = decided storing (λ e. rw e refl) (λ e. rw e refl)
+  says-inside Unlock = refl
+  says-inside Answer = refl
+  says-inside (SerialRequest mux) = refl
+  says-inside Other = refl
+
+  says-answer : (pending : Option Stamp) → answered (pendingOf pending) at f (asked false pending) .reply ≡ replyToAnswer (storedAfter p h .transmit) pending (timelyAnswer (p .serial) f pending at)
+  says-answer none = refl
+  says-answer (some since) =
+      rw (not-below (since .0 + 2000) (at .0))
+      (decided (isRight (p .serial) f && leb (at .0) (since .0 + 2000)) (λ n. rw n refl) (λ n. rw n refl))
+
+  says-outside : (x : Message) → outside x (pendingOf (pendingSince p h)) at f (asked false (pendingSince p h)) .reply ≡ replyOutside p h (storedAfter p h .transmit) at f x
+  says-outside Unlock =
+      decided (timelyUnlock (lastStart p h at) at)
+      (λ n. rw (n, within (lastStart p h at .0 + 10000) (at .0) n) refl)
+      (λ n. rw (n, beyond-it (lastStart p h at .0 + 10000) (at .0) n) refl)
+  says-outside Answer = says-answer (pendingSince p h)
+  says-outside Commit = refl
+  says-outside (SerialRequest mux) = refl
+  says-outside (Read s) = refl
+  says-outside (Write s v) = refl
+  says-outside Other = refl
+
+  says-frame : frameMet at storing f (found p h at) .reply ≡ replyTo p h (frameEvent at storing f)
+  says-frame =
+      decided (heardOn (storedAfter p h) f)
+      (λ x. decided (inSession p h at)
+      (λ y. rw (x, y) (says-inside (message f)))
+      (λ y. rw (x, y) (says-outside (message f))))
+      (λ x. rw x refl)
+
+pub unit-reply : (p : PowerOn) (h : List Event) (e : Event) → Run p (e ∷ h) → step e (unitAfter p h) .reply ≡ replyTo p h e
+unit-reply p h (resetEvent at) r = refl
+unit-reply p h (frameEvent at storing f) r =
+    ap (λ (w : Monitor). frameMet at storing f w .reply) (agrees p h (r .1 .1) at (r .1 .0)) ∙ says-frame p h at storing f

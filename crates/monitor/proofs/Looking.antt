@@ -1,0 +1,70 @@
+-- Looking back over one event more: what each question answers after a reset, a frame that was heard and one that was not. Assumes nothing.
+use Prim.Native.Nat.{ℕ}
+use mathlib.Core.Path.{_≡_, refl}
+use mathlib.Core.Bool.{Bool, true, false, cond, _&&_}
+use mathlib.Core.List.{List, _∷_, _++_}
+use mathlib.Core.Option.{Option, none}
+use Rattle.codec.specs.declared.frame.Frame.{Frame}
+use Rattle.maintenance.specs.declared.setting.Setting.{Setting}
+use Rattle.maintenance.specs.Messages.{message, heardOn}
+use Rattle.monitor.specs.declared.time.Stamp.{Stamp}
+use Rattle.monitor.specs.Events.{Event, frameEvent, resetEvent, PowerOn}
+use Rattle.monitor.specs.History.{near, timelyUnlock, timelyAnswer, commits, writes, leavesOpen, leavesPending, leavesStart, newest, taking, storedAfter, inSession, pendingSince, lastStart, lastWrite}
+use Rattle.monitor.specs.Demand.{heardIn}
+
+module _ (p : PowerOn) (at : Stamp) (storing : Bool) (f : Frame) (h : List Event) where
+  abbrev it : Event
+  it = frameEvent at storing f
+
+  pub stored-frame : storedAfter p (it ∷ h) ≡ cond (heardOn (storedAfter p h) f && inSession p h at && commits (message f) && storing) (taking (storedAfter p h) (λ s. lastWrite p h s)) (storedAfter p h)
+  unfolding storedAfter
+  stored-frame = refl
+
+  -- ---- not heard
+
+  module _ (x : heardOn (storedAfter p h) f ≡ false) where
+    pub session-unheard : (t : Stamp) → inSession p (it ∷ h) t ≡ inSession p h t
+    unfolding storedAfter
+    session-unheard t = rw x refl
+
+    pub pending-unheard : pendingSince p (it ∷ h) ≡ pendingSince p h
+    unfolding storedAfter
+    pending-unheard = rw x refl
+
+    pub start-unheard : (t : Stamp) → lastStart p (it ∷ h) t ≡ lastStart p h t
+    unfolding storedAfter
+    start-unheard t = rw x refl
+
+    pub write-unheard : (s : Setting) → lastWrite p (it ∷ h) s ≡ lastWrite p h s
+    unfolding storedAfter
+    write-unheard s = rw x refl
+
+  -- ---- heard
+
+  module _ (x : heardOn (storedAfter p h) f ≡ true) where
+    pub session-heard : (t : Stamp) → inSession p (it ∷ h) t ≡ (leavesOpen (inSession p h at) (message f) (timelyAnswer (p .serial) f (pendingSince p h) at) && near at t)
+    unfolding storedAfter
+    session-heard t = rw x refl
+
+    pub pending-heard : pendingSince p (it ∷ h) ≡ leavesPending (inSession p h at) (message f) (timelyUnlock (lastStart p h at) at) at (pendingSince p h)
+    unfolding storedAfter
+    pending-heard = rw x refl
+
+    pub start-heard : (t : Stamp) → lastStart p (it ∷ h) t ≡ leavesStart (inSession p h at) (message f) (timelyAnswer (p .serial) f (pendingSince p h) at) at t (lastStart p h at)
+    unfolding storedAfter
+    start-heard t = rw x refl
+
+    pub write-heard : (s : Setting) → lastWrite p (it ∷ h) s ≡ cond (inSession p h at) (newest (writes (p .rating) s (message f)) (lastWrite p h s)) none
+    unfolding storedAfter
+    write-heard s = rw x refl
+
+-- ---- what was heard since
+
+module _ (p : PowerOn) (at : Stamp) (storing : Bool) (f : Frame) (since before : List Event) where
+  pub unheard-since : heardOn (storedAfter p (since ++ before)) f ≡ false → heardIn p (frameEvent at storing f ∷ since) before ≡ heardIn p since before
+  unfolding heardIn
+  unheard-since x = rw x refl
+
+  pub heard-since : heardOn (storedAfter p (since ++ before)) f ≡ true → heardIn p (frameEvent at storing f ∷ since) before ≡ (record { at = at; frame = f } ∷ heardIn p since before)
+  unfolding heardIn
+  heard-since x = rw x refl

@@ -1,0 +1,94 @@
+-- Histories reach benches: power-on and an accepted event add to them, a refused one does not. Assumes nothing.
+use Prim.Native.Nat.{ℕ, _≤_}
+use mathlib.Core.Path.{_≡_, refl, sym, ap, subst, _∙_}
+use mathlib.Core.Bool.{Bool, true, false, cond}
+use mathlib.Core.List.{List, [], _∷_}
+use borrow.Author.Tests.{le-ltb, ltb-false}
+use Rattle.words.proofs.Tests.{decided, false-true}
+use Rattle.refusal.specs.declared.Refusal.{Refusal}
+use Rattle.refusal.specs.declared.Refusal.the-variants.{OverLimits, EarlyStamp, NotLegal}
+use Rattle.codec.specs.declared.frame.Answer.{Answer}
+use Rattle.codec.specs.declared.frame.Answer.the-variants.{Accepted, Refused}
+use Rattle.maintenance.specs.Settings.{accepted}
+use Rattle.maintenance.specs.Messages.{quiet}
+use Rattle.monitor.specs.declared.bench.Bench.{Bench}
+use Rattle.monitor.specs.declared.bench.PoweredOn.{PoweredOn}
+use Rattle.monitor.specs.declared.bench.Outcome.{Outcome}
+use Rattle.monitor.specs.Events.{Event, PowerOn, stampOf, beyond, lastStamp, Run}
+use Rattle.monitor.specs.Bench.{early, step, answeredTo, acceptedAt, poweredOn, benchAt, unitAfter, after}
+use Rattle.monitor.specs.History.{storedAfter, replyTo}
+use Rattle.monitor.specs.Reached.{Reached, Added, EventAnswered, PowerOnAnswered}
+use Rattle.monitor.proofs.History.{unit-stored, unit-reply}
+
+abbrev isAccepted : Answer → Bool
+isAccepted Accepted = true
+isAccepted (Refused why) = false
+
+not-both : {X : Type 0} (why : Refusal) → Refused why ≡ Accepted → X
+not-both why e = false-true (sym (ap isAccepted e))
+
+-- ---- what stands on the bench after a run
+
+in-order : (p : PowerOn) (e : Event) (h : List Event) → Run p (e ∷ h) → answeredTo e (benchAt (lastStamp p h) (unitAfter p h)) ≡ acceptedAt (stampOf e) (step e (unitAfter p h))
+in-order p e h r = rw (r .0, le-ltb (stampOf e .0) (lastStamp p h .0) (r .1 .0)) refl
+
+pub bench-after : (p : PowerOn) (h : List Event) → Run p h → after p h ≡ benchAt (lastStamp p h) (unitAfter p h)
+bench-after p [] a = rw (after, a) refl
+bench-after p (e ∷ h) r =
+    ap (λ (b : Bench). answeredTo e b .bench) (bench-after p h (r .1 .1)) ∙ ap (λ (o : Outcome). o .bench) (in-order p e h r)
+
+-- a run's next event is accepted
+pub accepted-next : (p : PowerOn) (e : Event) (h : List Event) → Run p (e ∷ h) → answeredTo e (after p h) ≡ acceptedAt (stampOf e) (step e (unitAfter p h))
+accepted-next p e h r = ap (answeredTo e) (bench-after p h (r .1 .1)) ∙ in-order p e h r
+
+-- ---- an event
+
+-- an event that is accepted goes on with every run that reaches the bench
+goes-on : (e : Event) (b : Bench) → answeredTo e b .answer ≡ Accepted → (p : PowerOn) (h : List Event) → Reached p h b → Run p (e ∷ h)
+goes-on e b a p h r =
+    decided (beyond e)
+    (λ x. not-both OverLimits (rw x at a))
+    (λ x. decided (early e b)
+    (λ y. not-both EarlyStamp (rw (x, y) at a))
+    (λ y. (
+      x,
+      (subst (λ (c : Bench). c .last .0 ≤ stampOf e .0) (r .bench ∙ bench-after p h (r .run)) (ltb-false (stampOf e .0) (b .last .0) y), r .run),
+    )))
+
+added : (e : Event) (b : Bench) → answeredTo e b .answer ≡ Accepted → (p : PowerOn) (h : List Event) → Reached p h b → Added p h e (answeredTo e b)
+added e b a p h r =
+    let run : Run p (e ∷ h) = goes-on e b a p h r in
+    let now : answeredTo e b ≡ acceptedAt (stampOf e) (step e (unitAfter p h)) = ap (answeredTo e) (r .bench) ∙ accepted-next p e h run in
+    record {
+      reached = record { run = run; bench = ap (λ (c : Bench). answeredTo e c .bench) (r .bench) };
+      stored = ap (λ (o : Outcome). o .bench .monitor .stored) now ∙ unit-stored p (e ∷ h) run;
+      reply = ap (λ (o : Outcome). o .reply) now ∙ unit-reply p h e run;
+    }
+
+same : (e : Event) (b : Bench) (why : Refusal) → answeredTo e b .answer ≡ Refused why → (answeredTo e b .bench ≡ b) × (answeredTo e b .reply ≡ quiet)
+same e b why a =
+    decided (beyond e)
+    (λ x. rw x (refl, refl))
+    (λ x. decided (early e b)
+    (λ y. rw (x, y) (refl, refl))
+    (λ y. not-both why (sym (rw (x, y) at a))))
+
+-- what meets the rules' outcome meets the rest
+pub event-answered : (e : Event) (b : Bench) (o : Outcome) → o ≡ answeredTo e b → EventAnswered e b o
+event-answered e b o q =
+    subst (EventAnswered e b) (sym q) (record { outcome = refl; accepted = added e b; refused = same e b })
+
+-- ---- power-on
+
+on-reached : (p : PowerOn) (test : Bool) → accepted (p .rating) (p .settings) ≡ test → poweredOn (p .at) (p .serial) (p .rating) (p .settings) .answer ≡ Accepted → Run p []
+on-reached p true t a = t
+on-reached p false t a = not-both NotLegal (rw t at a)
+
+pub power-on-answered : (p : PowerOn) (r : PoweredOn) → r ≡ poweredOn (p .at) (p .serial) (p .rating) (p .settings) → PowerOnAnswered p r
+power-on-answered p r q =
+    subst (PowerOnAnswered p) (sym q)
+    (record {
+      answered = refl;
+      reached = λ a. record { run = on-reached p (accepted (p .rating) (p .settings)) refl a; bench = refl };
+      stored = λ a. ap (λ (b : Bench). b .monitor .stored) (bench-after p [] (on-reached p (accepted (p .rating) (p .settings)) refl a)) ∙ unit-stored p [] (on-reached p (accepted (p .rating) (p .settings)) refl a);
+    })

@@ -1,0 +1,84 @@
+-- The monitor on the bench: the refusals 1 and 7 and power-on's 8, and what stands there after a history.
+use Prim.Native.Nat.{ℕ}
+use mathlib.Core.Bool.{Bool, cond}
+use mathlib.Core.List.{List, [], _∷_}
+use lib.ListN.{replicate}
+use Rattle.refusal.specs.declared.Refusal.{Refusal}
+use Rattle.refusal.specs.declared.Refusal.the-variants.{OverLimits, EarlyStamp, NotLegal}
+use Rattle.codec.specs.declared.frame.Answer.the-variants.{Accepted, Refused}
+use Rattle.monitor.specs.declared.time.Stamp.{Stamp}
+use Rattle.maintenance.specs.declared.setting.Settings.{Settings}
+use Rattle.monitor.specs.declared.unit.Monitor.{Monitor}
+use Rattle.monitor.specs.declared.unit.Turn.{Turn}
+use Rattle.monitor.specs.declared.bench.Bench.{Bench}
+use Rattle.monitor.specs.declared.bench.PoweredOn.{PoweredOn}
+use Rattle.monitor.specs.declared.bench.Outcome.{Outcome}
+use Rattle.monitor.specs.declared.bench.UptimeReading.{UptimeReading}
+use Rattle.monitor.specs.declared.bench.UptimeReading.the-variants.{Read as Ticked, Refused as NotTicked}
+use Rattle.monitor.specs.Times.{earlier}
+use Rattle.maintenance.specs.Settings.{accepted}
+use Rattle.maintenance.specs.Messages.{quiet}
+use Rattle.monitor.specs.Rules.{startedWith, framed, wasReset, uptimeOf}
+use Rattle.monitor.specs.Events.{Event, frameEvent, resetEvent, PowerOn, stampOf, beyond}
+
+-- 7: "a stamp earlier than the last accepted one (or power-on)"
+abbrev pub early : Event → Bench → Bool
+early e b = earlier (stampOf e) (b .last)
+
+-- what the unit does at an event
+abbrev pub step : Event → Monitor → Turn
+step (frameEvent at storing f) m = framed at storing f m
+step (resetEvent at) m = wasReset at m
+
+-- "state and lent memory are unchanged"
+abbrev pub refusedBy : Refusal → Bench → Outcome
+refusedBy why b = record { answer = Refused why; bench = b; reply = quiet }
+
+abbrev pub acceptedAt : Stamp → Turn → Outcome
+acceptedAt at t = record { answer = Accepted; bench = record { monitor = t .monitor; last = at }; reply = t .reply }
+
+-- "Event: 1, 7."
+abbrev pub answeredTo : Event → Bench → Outcome
+answeredTo e b =
+    cond (beyond e) (refusedBy OverLimits b)
+    (cond (early e b) (refusedBy EarlyStamp b)
+    (acceptedAt (stampOf e) (step e (b .monitor))))
+
+-- ---- power-on
+
+abbrev pub zeroSettings : Settings
+zeroSettings = record { receive = 0; transmit = 0; speed = 0; voltage = 0; warning = 0; fault = 0 }
+
+abbrev pub zeroStamp : Stamp
+zeroStamp = record { 0 = 0 }
+
+abbrev pub benchAt : Stamp → Monitor → Bench
+benchAt at m = record { monitor = m; last = at }
+
+-- what stands where no monitor is on
+abbrev pub noBench : Bench
+noBench = benchAt zeroStamp (startedWith (replicate 16 0) 0 zeroSettings zeroStamp)
+
+-- 8. A refusal returns the number alone: no monitor is on
+abbrev pub poweredOn : Stamp → List ℕ → ℕ → Settings → PoweredOn
+poweredOn at serial rating k =
+    cond (accepted rating k)
+    (record { answer = Accepted; bench = benchAt at (startedWith serial rating k at) })
+    (record { answer = Refused NotLegal; bench = noBench })
+
+-- ---- the uptime question
+
+abbrev pub uptimeAsked : Stamp → Bench → UptimeReading
+uptimeAsked at b = cond (earlier at (b .last)) (NotTicked EarlyStamp) (Ticked (uptimeOf at (b .monitor)))
+
+-- ---- histories
+
+-- the unit after power-on and a history of events that it is given as they are, the newest first
+abbrev pub unitAfter : PowerOn → List Event → Monitor
+unitAfter p [] = startedWith (p .serial) (p .rating) (p .settings) (p .at)
+unitAfter p (e ∷ h) = step e (unitAfter p h) .monitor
+
+-- the bench after power-on and a history of events, the newest first. A refused event leaves it as it was
+abbrev pub after : PowerOn → List Event → Bench
+after p [] = poweredOn (p .at) (p .serial) (p .rating) (p .settings) .bench
+after p (e ∷ h) = answeredTo e (after p h) .bench
