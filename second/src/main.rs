@@ -3,10 +3,14 @@
 mod codec;
 mod codec_cases;
 mod codec_inputs;
+mod history;
+#[cfg(test)]
+mod history_tests;
 mod monitor;
 mod monitor_cases;
 #[cfg(test)]
 mod monitor_coverage;
+mod monitor_histories;
 mod monitor_host;
 mod monitor_inputs;
 mod monitor_scenes;
@@ -22,7 +26,8 @@ use std::process::ExitCode;
 const USAGE: &str = "usage: second codec-inputs SEED COUNT   write COUNT records of codec cases
        second codec-answers             answer the codec cases on standard input
        second monitor-inputs SEED RUNS  write RUNS runs of monitor cases
-       second monitor-answers           answer the monitor cases on standard input";
+       second monitor-answers           answer the monitor cases on standard input
+       second monitor-histories         compare two readings of the cases on standard input";
 
 /// What the command line asks for.
 enum Command {
@@ -30,6 +35,7 @@ enum Command {
     CodecAnswers,
     MonitorInputs { seed: u64, runs: u64 },
     MonitorAnswers,
+    MonitorHistories,
 }
 
 fn command(arguments: &[String]) -> Option<Command> {
@@ -43,6 +49,7 @@ fn command(arguments: &[String]) -> Option<Command> {
             Some(Command::MonitorInputs { seed: seed.parse().ok()?, runs: runs.parse().ok()? })
         }
         ["monitor-answers"] => Some(Command::MonitorAnswers),
+        ["monitor-histories"] => Some(Command::MonitorHistories),
         _ => None,
     }
 }
@@ -54,15 +61,21 @@ fn cases() -> io::Result<Vec<u8>> {
     Ok(cases)
 }
 
-fn run(command: &Command) -> io::Result<()> {
+/// Does what was asked for. Gives false if a comparison found a difference.
+fn run(command: &Command) -> io::Result<bool> {
+    let mut same = true;
     let mut out = BufWriter::with_capacity(1 << 16, io::stdout().lock());
     match command {
         Command::CodecInputs { seed, count } => codec_inputs::write_all(*seed, *count, &mut out)?,
         Command::CodecAnswers => codec_cases::answer_all(&cases()?, &mut out)?,
         Command::MonitorInputs { seed, runs } => monitor_inputs::write_all(*seed, *runs, &mut out)?,
         Command::MonitorAnswers => monitor_cases::answer_all(&cases()?, &mut out)?,
+        Command::MonitorHistories => {
+            same = monitor_histories::compare_all(&cases()?, &mut out)?;
+        }
     }
-    out.flush()
+    out.flush()?;
+    Ok(same)
 }
 
 fn main() -> ExitCode {
@@ -73,7 +86,8 @@ fn main() -> ExitCode {
         return ExitCode::from(2);
     };
     match run(&command) {
-        Ok(()) => ExitCode::SUCCESS,
+        Ok(true) => ExitCode::SUCCESS,
+        Ok(false) => ExitCode::from(1),
         Err(error) => {
             eprintln!("second: {error}");
             ExitCode::from(1)

@@ -182,13 +182,13 @@ fn first_part(monitor: &mut Monitor, record: &Record) -> String {
 }
 
 /// "`no reply`; or the reply frame"
-fn reply_part(reply: Option<Frame>) -> String {
+pub fn reply_part(reply: Option<Frame>) -> String {
     reply.map_or("no reply".to_string(), |frame| frame.to_string())
 }
 
 /// "`stored` and the six settings that are stored after it, each after one
 /// space", with the space that comes before.
-fn stored_part(settings: &Settings) -> String {
+pub fn stored_part(settings: &Settings) -> String {
     let Settings { receive, transmit, voltage, warning, fault, .. } = settings;
     // Only the two speeds are ever stored.
     let speed = if settings.speed == SPEED_250 { 250 } else { 500 };
