@@ -28,6 +28,7 @@ use Rattle.monitor.specs.Times.{later, pastLimit}
 use Rattle.monitor.specs.Rules.{inPhase, sessionAt, goesOn, answered, refused, outside, inside, met, frameMet, woken, wasReset}
 use Rattle.monitor.specs.Events.{Event, frameEvent, resetEvent, PowerOn, stampOf, lastStamp, Run}
 use Rattle.monitor.specs.Bench.{step, unitAfter}
+use Rattle.monitor.specs.Promise.{isOpen}
 use Rattle.monitor.proofs.Rules.{woken-stored, woken-later, reset-woken}
 use Rattle.monitor.specs.History.{near, timelyUnlock, timelyAnswer, unlocks, answers, commits, writes, leavesOpen, leavesPending, leavesStart, newest, taking, storedAfter, inSession, pendingSince, lastStart, lastWrite, readable, replyToAnswer, replyOutside, replyInside, replyTo}
 
@@ -173,6 +174,16 @@ unit-stored p h r =
 
 pub unit-start : (p : PowerOn) (h : List Event) → Run p h → (t : Stamp) → lastStamp p h .0 ≤ t .0 → woken t (unitAfter p h) .start ≡ lastStart p h t
 unit-start p h r t l = ap (λ (m : Monitor). m .start) (agrees p h r t l)
+
+-- ---- whether a session is open
+
+open-phase : (session : Bool) (heard : Stamp) (draft : Settings) (pending : Option Stamp) → isOpen (phaseOf session heard draft pending) ≡ session
+open-phase true heard draft pending = refl
+open-phase false heard draft pending = refl
+
+pub unit-session : (p : PowerOn) (h : List Event) → Run p h → (t : Stamp) → lastStamp p h .0 ≤ t .0 → isOpen (woken t (unitAfter p h) .phase) ≡ inSession p h t
+unit-session p h r t l =
+    ap (λ (m : Monitor). isOpen (m .phase)) (agrees p h r t l) ∙ open-phase (inSession p h t) (lastHeard p h) (taking (storedAfter p h) (λ s. lastWrite p h s)) (pendingSince p h)
 
 -- ---- the reply
 

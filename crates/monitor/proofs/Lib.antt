@@ -8,6 +8,9 @@ pub mod Looking
 pub mod Sessions
 pub mod Starts
 pub mod Demand
+pub mod OneReading
 pub mod History
 pub mod Reached
+pub mod WorkedOut
+pub mod Marked
 pub mod Promise

@@ -10,7 +10,7 @@ use Rattle.maintenance.specs.Messages.{message, heardOn}
 use Rattle.monitor.specs.declared.time.Stamp.{Stamp}
 use Rattle.monitor.specs.Events.{Event, frameEvent, resetEvent, PowerOn}
 use Rattle.monitor.specs.History.{near, timelyUnlock, timelyAnswer, commits, writes, leavesOpen, leavesPending, leavesStart, newest, taking, storedAfter, inSession, pendingSince, lastStart, lastWrite}
-use Rattle.monitor.specs.Demand.{heardIn}
+use Rattle.monitor.specs.Demand.{lookingBack, heardIn}
 
 module _ (p : PowerOn) (at : Stamp) (storing : Bool) (f : Frame) (h : List Event) where
   abbrev it : Event
@@ -61,10 +61,10 @@ module _ (p : PowerOn) (at : Stamp) (storing : Bool) (f : Frame) (h : List Event
 -- ---- what was heard since
 
 module _ (p : PowerOn) (at : Stamp) (storing : Bool) (f : Frame) (since before : List Event) where
-  pub unheard-since : heardOn (storedAfter p (since ++ before)) f ≡ false → heardIn p (frameEvent at storing f ∷ since) before ≡ heardIn p since before
+  pub unheard-since : heardOn (storedAfter p (since ++ before)) f ≡ false → heardIn (lookingBack p) (frameEvent at storing f ∷ since) before ≡ heardIn (lookingBack p) since before
   unfolding heardIn
   unheard-since x = rw x refl
 
-  pub heard-since : heardOn (storedAfter p (since ++ before)) f ≡ true → heardIn p (frameEvent at storing f ∷ since) before ≡ (record { at = at; frame = f } ∷ heardIn p since before)
+  pub heard-since : heardOn (storedAfter p (since ++ before)) f ≡ true → heardIn (lookingBack p) (frameEvent at storing f ∷ since) before ≡ (record { at = at; frame = f } ∷ heardIn (lookingBack p) since before)
   unfolding heardIn
   heard-since x = rw x refl

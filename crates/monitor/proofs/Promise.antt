@@ -4,6 +4,7 @@ use Rattle.monitor.proofs.Events.{handles, powers-on, uptime-told}
 use Rattle.monitor.proofs.Rules.{unheard, starts}
 use Rattle.monitor.proofs.Replies.{outside-replies, session-replies, meets-woken}
 use Rattle.monitor.proofs.Runs.{holds}
+use Rattle.monitor.proofs.WorkedOut.{runs-accepted, worked-out, demand-3}
 
 pub promise : Promise
 promise =
@@ -17,4 +18,7 @@ promise =
       outside = outside-replies;
       session = session-replies;
       history = holds;
+      runs = runs-accepted;
+      worked-out = worked-out;
+      demand-3 = demand-3;
     }

@@ -44,8 +44,8 @@ accepted-next p e h r = ap (answeredTo e) (bench-after p h (r .1 .1)) ∙ in-ord
 -- ---- an event
 
 -- an event that is accepted goes on with every run that reaches the bench
-goes-on : (e : Event) (b : Bench) → answeredTo e b .answer ≡ Accepted → (p : PowerOn) (h : List Event) → Reached p h b → Run p (e ∷ h)
-goes-on e b a p h r =
+pub run-further : (e : Event) (b : Bench) → answeredTo e b .answer ≡ Accepted → (p : PowerOn) (h : List Event) → Reached p h b → Run p (e ∷ h)
+run-further e b a p h r =
     decided (beyond e)
     (λ x. not-both OverLimits (rw x at a))
     (λ x. decided (early e b)
@@ -57,7 +57,7 @@ goes-on e b a p h r =
 
 added : (e : Event) (b : Bench) → answeredTo e b .answer ≡ Accepted → (p : PowerOn) (h : List Event) → Reached p h b → Added p h e (answeredTo e b)
 added e b a p h r =
-    let run : Run p (e ∷ h) = goes-on e b a p h r in
+    let run : Run p (e ∷ h) = run-further e b a p h r in
     let now : answeredTo e b ≡ acceptedAt (stampOf e) (step e (unitAfter p h)) = ap (answeredTo e) (r .bench) ∙ accepted-next p e h run in
     record {
       reached = record { run = run; bench = ap (λ (c : Bench). answeredTo e c .bench) (r .bench) };
@@ -80,15 +80,15 @@ event-answered e b o q =
 
 -- ---- power-on
 
-on-reached : (p : PowerOn) (test : Bool) → accepted (p .rating) (p .settings) ≡ test → poweredOn (p .at) (p .serial) (p .rating) (p .settings) .answer ≡ Accepted → Run p []
-on-reached p true t a = t
-on-reached p false t a = not-both NotLegal (rw t at a)
+pub run-on : (p : PowerOn) (test : Bool) → accepted (p .rating) (p .settings) ≡ test → poweredOn (p .at) (p .serial) (p .rating) (p .settings) .answer ≡ Accepted → Run p []
+run-on p true t a = t
+run-on p false t a = not-both NotLegal (rw t at a)
 
 pub power-on-answered : (p : PowerOn) (r : PoweredOn) → r ≡ poweredOn (p .at) (p .serial) (p .rating) (p .settings) → PowerOnAnswered p r
 power-on-answered p r q =
     subst (PowerOnAnswered p) (sym q)
     (record {
       answered = refl;
-      reached = λ a. record { run = on-reached p (accepted (p .rating) (p .settings)) refl a; bench = refl };
-      stored = λ a. ap (λ (b : Bench). b .monitor .stored) (bench-after p [] (on-reached p (accepted (p .rating) (p .settings)) refl a)) ∙ unit-stored p [] (on-reached p (accepted (p .rating) (p .settings)) refl a);
+      reached = λ a. record { run = run-on p (accepted (p .rating) (p .settings)) refl a; bench = refl };
+      stored = λ a. ap (λ (b : Bench). b .monitor .stored) (bench-after p [] (run-on p (accepted (p .rating) (p .settings)) refl a)) ∙ unit-stored p [] (run-on p (accepted (p .rating) (p .settings)) refl a);
     })

@@ -16,7 +16,7 @@ use Rattle.maintenance.proofs.Messages.{and-left, and-right, and-false}
 use Rattle.monitor.specs.declared.time.Stamp.{Stamp}
 use Rattle.monitor.specs.Events.{Event, frameEvent, resetEvent, PowerOn}
 use Rattle.monitor.specs.History.{near, timelyUnlock, timelyAnswer, unlocks, answers, commits, writes, leavesOpen, leavesPending, newest, storedAfter, inSession, pendingSince, lastStart, lastWrite}
-use Rattle.monitor.specs.Demand.{Heard, heardIn, No, hasReset, Close, lastAccepted, Unlocked, Opened, heardSince}
+use Rattle.monitor.specs.Demand.{lookingBack, Heard, heardIn, No, hasReset, Close, lastAccepted, Unlocked, Opened, heardSince}
 use Rattle.monitor.proofs.Looking.{session-unheard, pending-unheard, write-unheard, session-heard, pending-heard, write-heard, unheard-since, heard-since}
 
 -- ---- what a message is
@@ -64,7 +64,7 @@ module _ (p : PowerOn) (at : Stamp) (storing : Bool) (f : Frame) (before : List 
     λ t. session-heard p at storing f before x t ∙ rw (o, m) refl,
   )
 
-  challenge-stays : Challenged the-unlock → (since : List Event) → hasReset since ≡ false → No unlocks (heardIn p since the-unlock) → No answers (heardIn p since the-unlock) → Challenged (since ++ the-unlock)
+  challenge-stays : Challenged the-unlock → (since : List Event) → hasReset since ≡ false → No unlocks (heardIn (lookingBack p) since the-unlock) → No answers (heardIn (lookingBack p) since the-unlock) → Challenged (since ++ the-unlock)
   challenge-stays c [] r u a = c
   challenge-stays c (resetEvent s ∷ since) r u a = false-true r
   challenge-stays c (frameEvent s works g ∷ since) r u a =
@@ -84,7 +84,7 @@ module _ (p : PowerOn) (at : Stamp) (storing : Bool) (f : Frame) (before : List 
       ))
 
 -- the challenge of an unlock is pending, and no session is open
-pub unlocked-pending : (p : PowerOn) (h : List Event) (u : Unlocked p h) → (pendingSince p h ≡ some (u .at)) × ((t : Stamp) → inSession p h t ≡ false)
+pub unlocked-pending : (p : PowerOn) (h : List Event) (u : Unlocked (lookingBack p) h) → (pendingSince p h ≡ some (u .at)) × ((t : Stamp) → inSession p h t ≡ false)
 unlocked-pending p h u =
     subst (Challenged p (u .at) (u .storing) (u .unlock) (u .before)) (sym (u .place))
     (challenge-stays p (u .at) (u .storing) (u .unlock) (u .before)
@@ -93,12 +93,12 @@ unlocked-pending p h u =
 
 -- ---- what is pending was unlocked
 
-module _ (p : PowerOn) (h : List Event) (w : Unlocked p h) (s : Stamp) (works : Bool) (g : Frame) where
+module _ (p : PowerOn) (h : List Event) (w : Unlocked (lookingBack p) h) (s : Stamp) (works : Bool) (g : Frame) where
   abbrev its-unlock : List Event
   its-unlock = frameEvent (w .at) (w .storing) (w .unlock) ∷ w .before
 
   -- the same unlock, one event later
-  further : No unlocks (heardIn p (frameEvent s works g ∷ w .since) its-unlock) → No answers (heardIn p (frameEvent s works g ∷ w .since) its-unlock) → Unlocked p (frameEvent s works g ∷ h)
+  further : No unlocks (heardIn (lookingBack p) (frameEvent s works g ∷ w .since) its-unlock) → No answers (heardIn (lookingBack p) (frameEvent s works g ∷ w .since) its-unlock) → Unlocked (lookingBack p) (frameEvent s works g ∷ h)
   further u a =
       record {
         since = frameEvent s works g ∷ w .since;
@@ -116,12 +116,12 @@ module _ (p : PowerOn) (h : List Event) (w : Unlocked p h) (s : Stamp) (works : 
         no-answer = a;
       }
 
-  unlocked-unheard : heardOn (storedAfter p h) g ≡ false → Unlocked p (frameEvent s works g ∷ h)
+  unlocked-unheard : heardOn (storedAfter p h) g ≡ false → Unlocked (lookingBack p) (frameEvent s works g ∷ h)
   unlocked-unheard x =
       let same = sym (unheard-since p s works g (w .since) its-unlock (subst (λ (l : List Event). heardOn (storedAfter p l) g ≡ false) (w .place) x)) in
       further (subst (No unlocks) same (w .no-unlock)) (subst (No answers) same (w .no-answer))
 
-  unlocked-heard : heardOn (storedAfter p h) g ≡ true → unlocks (message g) ≡ false → answers (message g) ≡ false → Unlocked p (frameEvent s works g ∷ h)
+  unlocked-heard : heardOn (storedAfter p h) g ≡ true → unlocks (message g) ≡ false → answers (message g) ≡ false → Unlocked (lookingBack p) (frameEvent s works g ∷ h)
   unlocked-heard x u a =
       let more = sym (heard-since p s works g (w .since) its-unlock (subst (λ (l : List Event). heardOn (storedAfter p l) g ≡ true) (w .place) x)) in
       further (subst (No unlocks) more (u, w .no-unlock)) (subst (No answers) more (a, w .no-answer))
@@ -141,7 +141,7 @@ left-pending false (Read s) timely at before u e own old = old refl refl e
 left-pending false (Write s v) timely at before u e own old = old refl refl e
 left-pending false Other timely at before u e own old = old refl refl e
 
-pub pending-unlocked : (p : PowerOn) (h : List Event) (u : Stamp) → pendingSince p h ≡ some u → (w : Unlocked p h) × (w .at ≡ u)
+pub pending-unlocked : (p : PowerOn) (h : List Event) (u : Stamp) → pendingSince p h ≡ some u → (w : Unlocked (lookingBack p) h) × (w .at ≡ u)
 unfolding storedAfter heardIn further unlocked-unheard unlocked-heard
 pending-unlocked p [] u e = nothing-pending u e
 pending-unlocked p (resetEvent at ∷ h) u e = nothing-pending u e
@@ -181,7 +181,7 @@ module _ (p : PowerOn) (at : Stamp) (storing : Bool) (f : Frame) (before : List 
     pub opens : (t : Stamp) → t .0 ≤ at .0 + 2000 → inSession p the-answer t ≡ true
     pub unwritten : (s : Setting) → lastWrite p the-answer s ≡ none
 
-  session-begins : heardOn (storedAfter p before) f ≡ true → message f ≡ Answer → isRight (p .serial) f ≡ true → (u : Unlocked p before) → at .0 ≤ u .at .0 + 2000 → Begins
+  session-begins : heardOn (storedAfter p before) f ≡ true → message f ≡ Answer → isRight (p .serial) f ≡ true → (u : Unlocked (lookingBack p) before) → at .0 ≤ u .at .0 + 2000 → Begins
   session-begins x m r u l =
       let c = unlocked-pending p before u in
       record {
@@ -189,7 +189,7 @@ module _ (p : PowerOn) (at : Stamp) (storing : Bool) (f : Frame) (before : List 
         unwritten = λ s. write-heard p at storing f before x s ∙ rw (c .1 at) refl;
       }
 
-  session-lasts : Begins → (since : List Event) → hasReset since ≡ false → No commits (heardIn p since the-answer) → (t : Stamp) → Close at (heardIn p since the-answer) t → inSession p (since ++ the-answer) t ≡ true
+  session-lasts : Begins → (since : List Event) → hasReset since ≡ false → No commits (heardIn (lookingBack p) since the-answer) → (t : Stamp) → Close at (heardIn (lookingBack p) since the-answer) t → inSession p (since ++ the-answer) t ≡ true
   unfolding heardIn
   session-lasts b [] r n t c = b .opens t c
   session-lasts b (resetEvent s ∷ since) r n t c = false-true r
@@ -204,7 +204,7 @@ module _ (p : PowerOn) (at : Stamp) (storing : Bool) (f : Frame) (before : List 
       let same = unheard-since p s works g since the-answer x in
       session-unheard p s works g (since ++ the-answer) x t ∙ session-lasts b since r (subst (No commits) same n) t (subst (λ (l : List Heard). Close at l t) same c))
 
-  writes-last : Begins → (since : List Event) → hasReset since ≡ false → No commits (heardIn p since the-answer) → (t : Stamp) → Close at (heardIn p since the-answer) t → (s : Setting) → lastWrite p (since ++ the-answer) s ≡ lastAccepted (p .rating) s (heardIn p since the-answer)
+  writes-last : Begins → (since : List Event) → hasReset since ≡ false → No commits (heardIn (lookingBack p) since the-answer) → (t : Stamp) → Close at (heardIn (lookingBack p) since the-answer) t → (s : Setting) → lastWrite p (since ++ the-answer) s ≡ lastAccepted (p .rating) s (heardIn (lookingBack p) since the-answer)
   unfolding heardIn
   writes-last b [] r n t c k = b .unwritten k
   writes-last b (resetEvent s ∷ since) r n t c k = false-true r
@@ -222,17 +222,17 @@ module _ (p : PowerOn) (at : Stamp) (storing : Bool) (f : Frame) (before : List 
       write-unheard p s works g (since ++ the-answer) x k
       ∙ (writes-last b since r (subst (No commits) same n) t (subst (λ (l : List Heard). Close at l t) same c) k ∙ ap (lastAccepted (p .rating) k) (sym same)))
 
-begins : (p : PowerOn) (h : List Event) (t : Stamp) (w : Opened p h t) → Begins p (w .at) (w .storing) (w .answer) (w .before)
+begins : (p : PowerOn) (h : List Event) (t : Stamp) (w : Opened p (lookingBack p) h t) → Begins p (w .at) (w .storing) (w .answer) (w .before)
 begins p h t w = session-begins p (w .at) (w .storing) (w .answer) (w .before) (w .heard) (w .answering) (w .right) (w .unlock) (w .timely)
 
 -- where the words say that a session is open, it is
-pub opened-session : (p : PowerOn) (h : List Event) (t : Stamp) → Opened p h t → inSession p h t ≡ true
+pub opened-session : (p : PowerOn) (h : List Event) (t : Stamp) → Opened p (lookingBack p) h t → inSession p h t ≡ true
 opened-session p h t w =
     subst (λ (l : List Event). inSession p l t ≡ true) (sym (w .place))
     (session-lasts p (w .at) (w .storing) (w .answer) (w .before) (begins p h t w) (w .since) (w .no-reset) (w .no-commit) t (w .close))
 
 -- and its last accepted writes are those heard since its answer
-pub opened-writes : (p : PowerOn) (h : List Event) (t : Stamp) (w : Opened p h t) (s : Setting) → lastWrite p h s ≡ lastAccepted (p .rating) s (heardSince p h t w)
+pub opened-writes : (p : PowerOn) (h : List Event) (t : Stamp) (w : Opened p (lookingBack p) h t) (s : Setting) → lastWrite p h s ≡ lastAccepted (p .rating) s (heardSince p (lookingBack p) h t w)
 opened-writes p h t w s =
     ap (λ (l : List Event). lastWrite p l s) (w .place)
     ∙ writes-last p (w .at) (w .storing) (w .answer) (w .before) (begins p h t w) (w .since) (w .no-reset) (w .no-commit) t (w .close) s
@@ -254,7 +254,7 @@ answered-timely serial f (some u) at e then =
 
 module _ (p : PowerOn) (h : List Event) (s : Stamp) (works : Bool) (g : Frame) where
   -- the same session, one event later
-  extend : (u t : Stamp) (w : Opened p h u) → (let all = heardIn p (frameEvent s works g ∷ w .since) (frameEvent (w .at) (w .storing) (w .answer) ∷ w .before) in No commits all → Close (w .at) all t → Opened p (frameEvent s works g ∷ h) t)
+  extend : (u t : Stamp) (w : Opened p (lookingBack p) h u) → (let all = heardIn (lookingBack p) (frameEvent s works g ∷ w .since) (frameEvent (w .at) (w .storing) (w .answer) ∷ w .before) in No commits all → Close (w .at) all t → Opened p (lookingBack p) (frameEvent s works g ∷ h) t)
   extend u t w n c =
       record {
         since = frameEvent s works g ∷ w .since;
@@ -273,17 +273,17 @@ module _ (p : PowerOn) (h : List Event) (s : Stamp) (works : Bool) (g : Frame) w
         close = c;
       }
 
-  opened-unheard : (t : Stamp) → heardOn (storedAfter p h) g ≡ false → Opened p h t → Opened p (frameEvent s works g ∷ h) t
+  opened-unheard : (t : Stamp) → heardOn (storedAfter p h) g ≡ false → Opened p (lookingBack p) h t → Opened p (lookingBack p) (frameEvent s works g ∷ h) t
   opened-unheard t x w =
       let same = sym (unheard-since p s works g (w .since) _ (subst (λ (l : List Event). heardOn (storedAfter p l) g ≡ false) (w .place) x)) in
       extend t t w (subst (No commits) same (w .no-commit)) (subst (λ (l : List Heard). Close (w .at) l t) same (w .close))
 
-  opened-heard : (t : Stamp) → heardOn (storedAfter p h) g ≡ true → commits (message g) ≡ false → t .0 ≤ s .0 + 2000 → Opened p h s → Opened p (frameEvent s works g ∷ h) t
+  opened-heard : (t : Stamp) → heardOn (storedAfter p h) g ≡ true → commits (message g) ≡ false → t .0 ≤ s .0 + 2000 → Opened p (lookingBack p) h s → Opened p (lookingBack p) (frameEvent s works g ∷ h) t
   opened-heard t x n l w =
       let more = sym (heard-since p s works g (w .since) _ (subst (λ (l : List Event). heardOn (storedAfter p l) g ≡ true) (w .place) x)) in
       extend s t w (subst (No commits) more (n, w .no-commit)) (subst (λ (l : List Heard). Close (w .at) l t) more (l, w .close))
 
-  opened-now : (t : Stamp) → heardOn (storedAfter p h) g ≡ true → message g ≡ Answer → isRight (p .serial) g ≡ true → (u : Unlocked p h) → s .0 ≤ u .at .0 + 2000 → t .0 ≤ s .0 + 2000 → Opened p (frameEvent s works g ∷ h) t
+  opened-now : (t : Stamp) → heardOn (storedAfter p h) g ≡ true → message g ≡ Answer → isRight (p .serial) g ≡ true → (u : Unlocked (lookingBack p) h) → s .0 ≤ u .at .0 + 2000 → t .0 ≤ s .0 + 2000 → Opened p (lookingBack p) (frameEvent s works g ∷ h) t
   unfolding heardIn
   opened-now t x m r u l n =
       record {
@@ -303,7 +303,7 @@ module _ (p : PowerOn) (h : List Event) (s : Stamp) (works : Bool) (g : Frame) w
         close = n;
       }
 
-pub session-opened : (p : PowerOn) (h : List Event) (t : Stamp) → inSession p h t ≡ true → Opened p h t
+pub session-opened : (p : PowerOn) (h : List Event) (t : Stamp) → inSession p h t ≡ true → Opened p (lookingBack p) h t
 unfolding storedAfter
 session-opened p [] t e = false-true (sym e)
 session-opened p (resetEvent at ∷ h) t e = false-true (sym e)

@@ -16,7 +16,7 @@ use Rattle.monitor.specs.declared.time.Stamp.{Stamp}
 use Rattle.monitor.specs.Times.{later}
 use Rattle.monitor.specs.Events.{Event, frameEvent, resetEvent, PowerOn, stampOf, lastStamp, Run}
 use Rattle.monitor.specs.History.{near, timelyAnswer, commits, leavesOpen, leavesStart, storedAfter, inSession, pendingSince, lastStart}
-use Rattle.monitor.specs.Demand.{Silent, Start, at-power-on, at-reset, at-commit, after-silence, LastStart}
+use Rattle.monitor.specs.Demand.{lookingBack, Silent, Start, at-power-on, at-reset, at-commit, after-silence, LastStart}
 use Rattle.monitor.proofs.Looking.{start-unheard, start-heard, session-heard}
 use Rattle.monitor.proofs.Sessions.{commits-only}
 
@@ -98,7 +98,7 @@ module _ (p : PowerOn) (at : Stamp) (storing : Bool) (f : Frame) (h : List Event
   its = frameEvent at storing f
 
   -- the same start, one frame later, if what was told as a silence does not hear it too soon
-  start-further : (t u s : Stamp) → t .0 ≤ u .0 → (s .0 < t .0 → heardOn (storedAfter p h) f ≡ true → s .0 < at .0) → Start p h t s → Start p (its ∷ h) u s
+  start-further : (t u s : Stamp) → t .0 ≤ u .0 → (s .0 < t .0 → heardOn (storedAfter p h) f ≡ true → s .0 < at .0) → Start p (lookingBack p) h t s → Start p (lookingBack p) (its ∷ h) u s
   start-further t u s l quiet (at-power-on q) = at-power-on q
   start-further t u s l quiet (at-reset since before q) = at-reset (its ∷ since) before (ap (λ (h′ : List Event). its ∷ h′) q)
   start-further t u s l quiet (at-commit since before works g q x m o) = at-commit (its ∷ since) before works g (ap (λ (h′ : List Event). its ∷ h′) q) x m o
@@ -106,7 +106,7 @@ module _ (p : PowerOn) (at : Stamp) (storing : Bool) (f : Frame) (h : List Event
       after-silence (its ∷ since) before a works g (ap (λ (h′ : List Event). its ∷ h′) q) x o e (omega arith)
       (λ y. quiet n (subst (λ (h′ : List Event). heardOn (storedAfter p h′) f ≡ true) (sym q) y), silent)
 
-started : (p : PowerOn) (h : List Event) → Run p h → (t : Stamp) → lastStamp p h .0 ≤ t .0 → Start p h t (lastStart p h t)
+started : (p : PowerOn) (h : List Event) → Run p h → (t : Stamp) → lastStamp p h .0 ≤ t .0 → Start p (lookingBack p) h t (lastStart p h t)
 unfolding storedAfter
 started p [] r t l = at-power-on refl
 started p (resetEvent at ∷ h) r t l = at-reset [] h refl
@@ -116,13 +116,13 @@ started p (frameEvent at storing f ∷ h) r t l =
     let all = start-heard p at storing f h x t in
     let right = timelyAnswer (p .serial) f (pendingSince p h) at in
     left-start (inSession p h at) (message f) right at t (lastStart p h at)
-    (λ o c q. subst (Start p (frameEvent at storing f ∷ h) t) (sym (all ∙ q)) (at-commit [] h storing f refl x (commits-only (message f) c) o))
+    (λ o c q. subst (Start p (lookingBack p) (frameEvent at storing f ∷ h) t) (sym (all ∙ q)) (at-commit [] h storing f refl x (commits-only (message f) c) o))
     (λ o n q.
-    subst (Start p (frameEvent at storing f ∷ h) t) (sym (all ∙ q))
+    subst (Start p (lookingBack p) (frameEvent at storing f ∷ h) t) (sym (all ∙ q))
     (after-silence [] h at storing f refl x (session-heard p at storing f h x at ∙ rw (o, le-leb (at .0) (at .0 + 2000) (omega arith)) refl) refl n tt))
-    (λ q. subst (Start p (frameEvent at storing f ∷ h) t) (sym (all ∙ q)) (start-further p at storing f h at t (lastStart p h at) l (λ n y. n) (started p h (r .1 .1) at (r .1 .0)))))
+    (λ q. subst (Start p (lookingBack p) (frameEvent at storing f ∷ h) t) (sym (all ∙ q)) (start-further p at storing f h at t (lastStart p h at) l (λ n y. n) (started p h (r .1 .1) at (r .1 .0)))))
     (λ x.
-    subst (Start p (frameEvent at storing f ∷ h) t) (sym (start-unheard p at storing f h x t))
+    subst (Start p (lookingBack p) (frameEvent at storing f ∷ h) t) (sym (start-unheard p at storing f h x t))
     (start-further p at storing f h t t (lastStart p h t) (omega arith) (λ n y. false-true (sym y ∙ x)) (started p h (r .1 .1) t (let q = r .1 .0 in omega arith))))
 
 -- ---- and the latest
@@ -143,7 +143,7 @@ module _ (p : PowerOn) (at : Stamp) (storing : Bool) (f : Frame) (before : List 
       kept-open true y right at t start e n = rw (not-true (commits y) e, lt-leb (t .0) (at .0 + 2000) n) refl
       kept-open false y right at t start e n = rw (e, lt-leb (t .0) (at .0 + 2000) n) refl
 
-  silence-counts : (since : List Event) → Run p (since ++ the-last) → (t : Stamp) → lastStamp p (since ++ the-last) .0 ≤ t .0 → at .0 + 2000 < t .0 → Silent p (later at 2000) since the-last → at .0 + 2000 ≤ lastStart p (since ++ the-last) t .0
+  silence-counts : (since : List Event) → Run p (since ++ the-last) → (t : Stamp) → lastStamp p (since ++ the-last) .0 ≤ t .0 → at .0 + 2000 < t .0 → Silent (lookingBack p) (later at 2000) since the-last → at .0 + 2000 ≤ lastStart p (since ++ the-last) t .0
   unfolding storedAfter
   silence-counts [] r t l n silent = subst (λ (s : Stamp). at .0 + 2000 ≤ s .0) (sym (silent-start t n)) (omega arith)
   silence-counts (resetEvent s ∷ since) r t l n silent = let q = silent .0 in omega arith
@@ -164,7 +164,7 @@ from-there p since h′ h u q s r t l =
     (λ r′ l′. subst (λ (v : Stamp). v .0 ≤ lastStart p (since ++ h′) t .0) s (keeps p since h′ r′ t l′))
     r l
 
-latest : (p : PowerOn) (h : List Event) → Run p h → (t : Stamp) → lastStamp p h .0 ≤ t .0 → (u : Stamp) → Start p h t u → u .0 ≤ lastStart p h t .0
+latest : (p : PowerOn) (h : List Event) → Run p h → (t : Stamp) → lastStamp p h .0 ≤ t .0 → (u : Stamp) → Start p (lookingBack p) h t u → u .0 ≤ lastStart p h t .0
 unfolding storedAfter
 latest p h r t l u (at-power-on q) = from-there p h [] h u (sym (append-nil h)) (sym q) r t l
 latest p h r t l u (at-reset since before q) = from-there p since (resetEvent u ∷ before) h u q refl r t l
@@ -173,8 +173,8 @@ latest p h r t l u (at-commit since before storing f q x m o) =
 latest p h r t l u (after-silence since before at storing f q x o e n silent) =
     subst (λ (v : Stamp). v .0 ≤ lastStart p h t .0) (sym e)
     (subst (λ (h′ : List Event). Run p h′ → lastStamp p h′ .0 ≤ t .0 → at .0 + 2000 ≤ lastStart p h′ t .0) (sym q)
-    (λ r′ l′. silence-counts p at storing f before x o since r′ t l′ (subst (λ (v : Stamp). v .0 < t .0) e n) (subst (λ (v : Stamp). Silent p v since (frameEvent at storing f ∷ before)) e silent))
+    (λ r′ l′. silence-counts p at storing f before x o since r′ t l′ (subst (λ (v : Stamp). v .0 < t .0) e n) (subst (λ (v : Stamp). Silent (lookingBack p) v since (frameEvent at storing f ∷ before)) e silent))
     r l)
 
-pub last-start : (p : PowerOn) (h : List Event) → Run p h → (t : Stamp) → lastStamp p h .0 ≤ t .0 → LastStart p h t (lastStart p h t)
+pub last-start : (p : PowerOn) (h : List Event) → Run p h → (t : Stamp) → lastStamp p h .0 ≤ t .0 → LastStart p (lookingBack p) h t (lastStart p h t)
 last-start p h r t l = record { started = started p h r t l; latest = latest p h r t l }

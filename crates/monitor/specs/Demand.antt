@@ -1,9 +1,10 @@
--- Demand 3 in its own words. What the words speak of are places in the history, `since ++ (event ∷ before)`: the events since the one spoken of, that
--- event, and the events before it, the newest first.
+-- Demand 3 in its own words. They speak of places in the history, `since ++ (event ∷ before)`: the events since the one spoken of, that event, and the
+-- events before it, the newest first. They are said of any reading of histories: of the monitor's own state, and of the one that looks back.
 use Prim.Native.Nat.{ℕ, _+_, _≤_, _<_}
 use mathlib.Core.Path.{_≡_}
 use mathlib.Core.Bool.{Bool, true, false, cond}
 use mathlib.Core.List.{List, [], _∷_, _++_}
+use mathlib.Core.Logic.{_↔_}
 use mathlib.Core.Option.{Option, none, Option·getD}
 use Rattle.codec.specs.declared.frame.Frame.{Frame}
 use Rattle.maintenance.specs.declared.setting.Setting.{Setting}
@@ -14,8 +15,18 @@ use Rattle.maintenance.specs.Settings.{valueOf}
 use Rattle.maintenance.specs.Messages.{message, heardOn, isRight}
 use Rattle.monitor.specs.declared.time.Stamp.{Stamp}
 use Rattle.monitor.specs.Times.{later}
-use Rattle.monitor.specs.Events.{Event, frameEvent, resetEvent, PowerOn}
+use Rattle.monitor.specs.Events.{Event, frameEvent, resetEvent, PowerOn, lastStamp, Run}
 use Rattle.monitor.specs.History.{unlocks, answers, commits, writes, newest, storedAfter, inSession, lastStart}
+
+-- what is said of each history: the six stored after it; and for an event at a stamp, whether a session is open for it, and the last start before it
+pub record Reading : Type 0 where
+  pub stored : List Event → Settings
+  pub session : List Event → Stamp → Bool
+  pub start : List Event → Stamp → Stamp
+
+-- the reading that looks back
+abbrev pub lookingBack : PowerOn → Reading
+lookingBack p = record { stored = λ h. storedAfter p h; session = λ h t. inSession p h t; start = λ h t. lastStart p h t }
 
 -- ---- what was heard
 
@@ -24,11 +35,11 @@ pub record Heard : Type 0 where
   pub frame : Frame
 
 -- what was heard in the events since, each judged by the settings stored just before it
-unfoldable pub heardIn : PowerOn → List Event → List Event → List Heard
-heardIn p [] before = []
-heardIn p (resetEvent at ∷ since) before = heardIn p since before
-heardIn p (frameEvent at storing f ∷ since) before =
-    cond (heardOn (storedAfter p (since ++ before)) f) (record { at = at; frame = f } ∷ heardIn p since before) (heardIn p since before)
+unfoldable pub heardIn : Reading → List Event → List Event → List Heard
+heardIn r [] before = []
+heardIn r (resetEvent at ∷ since) before = heardIn r since before
+heardIn r (frameEvent at storing f ∷ since) before =
+    cond (heardOn (r .stored (since ++ before)) f) (record { at = at; frame = f } ∷ heardIn r since before) (heardIn r since before)
 
 -- nothing heard says such a thing
 abbrev pub No : (Message → Bool) → List Heard → Type 0
@@ -55,82 +66,93 @@ lastAccepted rating s (m ∷ ms) = newest (writes rating s (message (m .frame)))
 
 -- "a timely unlock": heard outside a session, at most 10,000 ms after the last start. Its challenge is still there: no reset, and no other unlock and no
 -- answer heard since.
-pub record Unlocked (p : PowerOn) (h : List Event) : Type 0 where
+pub record Unlocked (r : Reading) (h : List Event) : Type 0 where
   pub since : List Event
   pub at : Stamp
   pub storing : Bool
   pub unlock : Frame
   pub before : List Event
   pub place : h ≡ since ++ (frameEvent at storing unlock ∷ before)
-  pub heard : heardOn (storedAfter p before) unlock ≡ true
+  pub heard : heardOn (r .stored before) unlock ≡ true
   pub unlocking : message unlock ≡ Unlock
-  pub outside : inSession p before at ≡ false
-  pub timely : at .0 ≤ lastStart p before at .0 + 10000
+  pub outside : r .session before at ≡ false
+  pub timely : at .0 ≤ r .start before at .0 + 10000
   pub no-reset : hasReset since ≡ false
-  pub no-unlock : No unlocks (heardIn p since (frameEvent at storing unlock ∷ before))
-  pub no-answer : No answers (heardIn p since (frameEvent at storing unlock ∷ before))
+  pub no-unlock : No unlocks (heardIn r since (frameEvent at storing unlock ∷ before))
+  pub no-answer : No answers (heardIn r since (frameEvent at storing unlock ∷ before))
 
 -- "inside a session opened by a timely unlock and its timely right answer, with no reset, no earlier commit heard and no two successive heard
 -- messages over 2,000 ms apart since that answer": such a session for a message at t
-pub record Opened (p : PowerOn) (h : List Event) (t : Stamp) : Type 0 where
+pub record Opened (p : PowerOn) (r : Reading) (h : List Event) (t : Stamp) : Type 0 where
   pub since : List Event
   pub at : Stamp
   pub storing : Bool
   pub answer : Frame
   pub before : List Event
   pub place : h ≡ since ++ (frameEvent at storing answer ∷ before)
-  pub heard : heardOn (storedAfter p before) answer ≡ true
+  pub heard : heardOn (r .stored before) answer ≡ true
   pub answering : message answer ≡ Answer
   pub right : isRight (p .serial) answer ≡ true
-  pub unlock : Unlocked p before
+  pub unlock : Unlocked r before
   pub timely : at .0 ≤ unlock .at .0 + 2000
   pub no-reset : hasReset since ≡ false
-  pub no-commit : No commits (heardIn p since (frameEvent at storing answer ∷ before))
-  pub close : Close at (heardIn p since (frameEvent at storing answer ∷ before)) t
+  pub no-commit : No commits (heardIn r since (frameEvent at storing answer ∷ before))
+  pub close : Close at (heardIn r since (frameEvent at storing answer ∷ before)) t
 
 -- what was heard in it since its answer
-abbrev pub heardSince : (p : PowerOn) (h : List Event) (t : Stamp) → Opened p h t → List Heard
-heardSince p h t s = heardIn p (s .since) (frameEvent (s .at) (s .storing) (s .answer) ∷ s .before)
+abbrev pub heardSince : (p : PowerOn) (r : Reading) (h : List Event) (t : Stamp) → Opened p r h t → List Heard
+heardSince p r h t s = heardIn r (s .since) (frameEvent (s .at) (s .storing) (s .answer) ∷ s .before)
 
 -- ---- the event that stores
 
 -- "a commit heard on the identifier then in force, with storage working, inside a session"
-pub record Stores (p : PowerOn) (h : List Event) (e : Event) : Type 0 where
+pub record Stores (p : PowerOn) (r : Reading) (h : List Event) (e : Event) : Type 0 where
   pub at : Stamp
   pub storing : Bool
   pub commit : Frame
   pub event : e ≡ frameEvent at storing commit
   pub committing : message commit ≡ Commit
-  pub heard : heardOn (storedAfter p h) commit ≡ true
+  pub heard : heardOn (r .stored h) commit ≡ true
   pub working : storing ≡ true
-  pub session : Opened p h at
+  pub session : Opened p r h at
 
--- The demand of an event after a history, which finds the settings k stored and leaves n.
-pub record Demand (p : PowerOn) (h : List Event) (e : Event) (k n : Settings) : Type 0 where
+-- an event after a history
+pub record Changes (p : PowerOn) (r : Reading) (h : List Event) (e : Event) : Type 0 where
   -- "They change only at": where one of the six differs
-  pub only : (s : Setting) → (valueOf n s ≡ valueOf k s → ⊥) → Stores p h e
+  pub only : (s : Setting) → (valueOf (r .stored (e ∷ h)) s ≡ valueOf (r .stored h) s → ⊥) → Stores p r h e
   -- "Each setting then takes that session's last accepted write to it, if there was one."
-  pub takes : (w : Stores p h e) (s : Setting) → valueOf n s ≡ Option·getD (lastAccepted (p .rating) s (heardSince p h (w .at) (w .session))) (valueOf k s)
+  pub takes : (w : Stores p r h e) (s : Setting) → valueOf (r .stored (e ∷ h)) s ≡ Option·getD (lastAccepted (p .rating) s (heardSince p r h (w .at) (w .session))) (valueOf (r .stored h) s)
   -- "At every other event all six stay."
-  pub stays : (Stores p h e → ⊥) → n ≡ k
+  pub stays : (Stores p r h e → ⊥) → r .stored (e ∷ h) ≡ r .stored h
 
 -- ---- the last start
 
 -- a silence: what is heard since, and every reset since, is later than a stamp
-abbrev pub Silent : PowerOn → Stamp → List Event → List Event → Type 0
-Silent p until [] before = Unit
-Silent p until (resetEvent at ∷ since) before = (until .0 < at .0) × Silent p until since before
-Silent p until (frameEvent at storing f ∷ since) before =
-    (heardOn (storedAfter p (since ++ before)) f ≡ true → until .0 < at .0) × Silent p until since before
+abbrev pub Silent : Reading → Stamp → List Event → List Event → Type 0
+Silent r until [] before = Unit
+Silent r until (resetEvent at ∷ since) before = (until .0 < at .0) × Silent r until since before
+Silent r until (frameEvent at storing f ∷ since) before =
+    (heardOn (r .stored (since ++ before)) f ≡ true → until .0 < at .0) × Silent r until since before
 
 -- the monitor has started at a stamp s, told at a stamp t after the history
-pub data Start (p : PowerOn) (h : List Event) (t s : Stamp) : Type 0 where
-  at-power-on : s ≡ p .at → Start p h t s
-  at-reset : (since before : List Event) → h ≡ since ++ (resetEvent s ∷ before) → Start p h t s
-  at-commit : (since before : List Event) (storing : Bool) (f : Frame) → h ≡ since ++ (frameEvent s storing f ∷ before) → heardOn (storedAfter p before) f ≡ true → message f ≡ Commit → inSession p before s ≡ true → Start p h t s
-  after-silence : (since before : List Event) (at : Stamp) (storing : Bool) (f : Frame) → h ≡ since ++ (frameEvent at storing f ∷ before) → heardOn (storedAfter p before) f ≡ true → inSession p (frameEvent at storing f ∷ before) at ≡ true → s ≡ later at 2000 → s .0 < t .0 → Silent p s since (frameEvent at storing f ∷ before) → Start p h t s
+pub data Start (p : PowerOn) (r : Reading) (h : List Event) (t s : Stamp) : Type 0 where
+  at-power-on : s ≡ p .at → Start p r h t s
+  at-reset : (since before : List Event) → h ≡ since ++ (resetEvent s ∷ before) → Start p r h t s
+  -- a commit heard in a session
+  at-commit : (since before : List Event) (storing : Bool) (f : Frame) → h ≡ since ++ (frameEvent s storing f ∷ before) → heardOn (r .stored before) f ≡ true → message f ≡ Commit → r .session before s ≡ true → Start p r h t s
+  -- 2,000 ms after a message that was heard and left a session open, and after which nothing more was heard in that time
+  after-silence : (since before : List Event) (at : Stamp) (storing : Bool) (f : Frame) → h ≡ since ++ (frameEvent at storing f ∷ before) → heardOn (r .stored before) f ≡ true → r .session (frameEvent at storing f ∷ before) at ≡ true → s ≡ later at 2000 → s .0 < t .0 → Silent r s since (frameEvent at storing f ∷ before) → Start p r h t s
 
 -- the latest of power-on, a reset, a commit heard in a session, and a silence plus 2,000
-pub record LastStart (p : PowerOn) (h : List Event) (t s : Stamp) : Type 0 where
-  pub started : Start p h t s
-  pub latest : (u : Stamp) → Start p h t u → u .0 ≤ s .0
+pub record LastStart (p : PowerOn) (r : Reading) (h : List Event) (t s : Stamp) : Type 0 where
+  pub started : Start p r h t s
+  pub latest : (u : Stamp) → Start p r h t u → u .0 ≤ s .0
+
+-- ---- the demand
+
+-- what the demand says of a reading, over every run of accepted events from a power-on
+pub record Demand (p : PowerOn) (r : Reading) : Type 0 where
+  pub first : Run p [] → r .stored [] ≡ p .settings
+  pub six : (e : Event) (h : List Event) → Run p (e ∷ h) → Changes p r h e
+  pub sessions : (h : List Event) → Run p h → (t : Stamp) → lastStamp p h .0 ≤ t .0 → r .session h t ≡ true ↔ Opened p r h t
+  pub starts : (h : List Event) → Run p h → (t : Stamp) → lastStamp p h .0 ≤ t .0 → LastStart p r h t (r .start h t)

@@ -8,4 +8,5 @@ pub mod Demand
 pub mod Reached
 pub mod Replies
 pub mod Answers
+pub mod Marked
 pub mod Promise

@@ -2,15 +2,18 @@
 use Prim.Native.Nat.{ℕ, _+_, _-_, _/_, _<_, _≤_}
 use mathlib.Core.Path.{_≡_}
 use mathlib.Core.Bool.{Bool, true, false}
-use mathlib.Core.List.{List, []}
+use mathlib.Core.List.{List, [], _∷_}
+use mathlib.Core.Logic.{_↔_}
 use Rattle.refusal.specs.Conditions.{First, None, Answers}
 use Rattle.codec.specs.declared.frame.Frame.{Frame}
+use Rattle.codec.specs.declared.frame.Answer.the-variants.{Accepted}
 use Rattle.monitor.specs.declared.time.Stamp.{Stamp}
 use Rattle.maintenance.specs.declared.setting.Settings.{Settings}
 use Rattle.maintenance.specs.declared.message.Reply.{Reply}
 use Rattle.monitor.specs.declared.unit.Session.{Session}
 use Rattle.monitor.specs.declared.unit.Pending.{Pending}
 use Rattle.monitor.specs.declared.unit.Pending.the-variants.{Nothing}
+use Rattle.monitor.specs.declared.unit.Phase.{Phase}
 use Rattle.monitor.specs.declared.unit.Phase.the-variants.{Outside, InSession}
 use Rattle.monitor.specs.declared.unit.Monitor.{Monitor}
 use Rattle.monitor.specs.declared.bench.Bench.{Bench}
@@ -19,8 +22,10 @@ use Rattle.maintenance.specs.Settings.{accepted}
 use Rattle.maintenance.specs.Messages.{quiet as noReply}
 use Rattle.monitor.specs.Rules.{turn, started, woken, heard, framed, wasReset}
 use Rattle.monitor.specs.Replies.{OutsideReplies, SessionReplies}
-use Rattle.monitor.specs.Events.{Event, PowerOn, IsAccepted, stampOf}
-use Rattle.monitor.specs.Bench.{step, answeredTo, poweredOn, uptimeAsked, benchAt, after}
+use Rattle.monitor.specs.Events.{Event, PowerOn, IsAccepted, stampOf, lastStamp, Run}
+use Rattle.monitor.specs.Bench.{step, answeredTo, poweredOn, uptimeAsked, benchAt, unitAfter, after}
+use Rattle.monitor.specs.History.{storedAfter, inSession, lastStart, replyTo}
+use Rattle.monitor.specs.Demand.{Reading, Demand, lookingBack}
 use Rattle.monitor.specs.Answers.{on, ticks, givenReply, toldOutcome, toldPowerOn, toldUptime, eventConditions, powerOnConditions, uptimeConditions}
 
 -- ---- answered or refused
@@ -83,6 +88,35 @@ pub record Holds (p : PowerOn) (h : List Event) : Type 0 where
   -- the last start, silence counted, is not after the question, so that the uptime is a true difference
   pub start : (at : Stamp) → after p h .last .0 ≤ at .0 → woken at (after p h .monitor) .start .0 ≤ at .0
 
+-- ---- demand 3
+
+abbrev pub isOpen : Phase → Bool
+isOpen (Outside pending) = false
+isOpen (InSession s) = true
+
+-- what a monitor's own state says, silence counted, if this is the monitor after each history
+abbrev pub stateOf : (List Event → Monitor) → Reading
+stateOf unit = record { stored = λ h. unit h .stored; session = λ h t. isOpen (woken t (unit h) .phase); start = λ h t. woken t (unit h) .start }
+
+-- a run is what the functions accept, one after another
+pub record RunsAreAccepted (p : PowerOn) : Type 0 where
+  pub power-on : Run p [] ↔ poweredOn (p .at) (p .serial) (p .rating) (p .settings) .answer ≡ Accepted
+  pub event : (e : Event) (h : List Event) → Run p h → Run p (e ∷ h) ↔ answeredTo e (after p h) .answer ≡ Accepted
+
+-- after a run the stored six, the next reply and the last start are those worked out from the history
+pub record WorkedOut (p : PowerOn) (h : List Event) : Type 0 where
+  pub stored : after p h .monitor .stored ≡ storedAfter p h
+  pub reply : (e : Event) → Run p (e ∷ h) → answeredTo e (after p h) .reply ≡ replyTo p h e
+  pub session : (t : Stamp) → lastStamp p h .0 ≤ t .0 → isOpen (woken t (after p h .monitor) .phase) ≡ inSession p h t
+  pub start : (t : Stamp) → lastStamp p h .0 ≤ t .0 → woken t (after p h .monitor) .start ≡ lastStart p h t
+
+-- the demand in its own words: of the unit, of the unit on the bench, and of the reading that looks back. The words leave no choice.
+pub record Demand3 (p : PowerOn) : Type 0 where
+  pub unit : Demand p (stateOf (λ h. unitAfter p h))
+  pub bench : Demand p (stateOf (λ h. after p h .monitor))
+  pub history : Demand p (lookingBack p)
+  pub one : (r r′ : Reading) → Demand p r → Demand p r′ → (h : List Event) → Run p h → r .stored h ≡ r′ .stored h
+
 -- ---- the promise
 
 pub record Promise : Type 0 where
@@ -95,3 +129,6 @@ pub record Promise : Type 0 where
   pub outside : (m : Monitor) (pending : Pending) (at : Stamp) (storing : Bool) (f : Frame) → m .phase ≡ Outside pending → heard f m ≡ true → OutsideReplies m pending at storing f
   pub session : (m : Monitor) (s : Session) (at : Stamp) (storing : Bool) (f : Frame) → m .phase ≡ InSession s → at .0 ≤ s .heard .0 + 2000 → heard f m ≡ true → SessionReplies m s at storing f
   pub history : (p : PowerOn) → IsAccepted p → (h : List Event) → Holds p h
+  pub runs : (p : PowerOn) → RunsAreAccepted p
+  pub worked-out : (p : PowerOn) (h : List Event) → Run p h → WorkedOut p h
+  pub demand-3 : (p : PowerOn) → Demand3 p
