@@ -1,14 +1,16 @@
 -- Settings: what is accepted taken apart and put together, and values with the top bit set. Assumes nothing.
 use Prim.Native.Nat.{ℕ, _<_, _≤_}
-use mathlib.Core.Path.{_≡_, refl}
+use mathlib.Core.Path.{_≡_, refl, sym, ap, _∙_}
 use mathlib.Core.Bool.{Bool, true, false, _&&_}
 use lib.Dec.{leb, ltb}
 use borrow.Author.Tests.{leb-true, ltb-true, lt-leb, le-ltb, ne-eqb}
 use native.Mathlib.Omega.{arith}
 use Rattle.maintenance.specs.declared.setting.Setting.{Setting}
 use Rattle.maintenance.specs.declared.setting.Setting.the-variants.{ReceiveId, TransmitId, Speed, Voltage, WarningLevel, FaultLevel}
+use Rattle.maintenance.specs.declared.setting.Named.{Named}
+use Rattle.maintenance.specs.declared.setting.Named.the-variants.{Unknown, Known}
 use Rattle.maintenance.specs.declared.setting.Settings.{Settings}
-use Rattle.maintenance.specs.Settings.{legal, accepted, withValue}
+use Rattle.maintenance.specs.Settings.{code, settingOf, legal, accepted}
 use Rattle.maintenance.specs.Promise.{NegativeRefused}
 use Rattle.maintenance.proofs.Messages.{and-left, and-right, and-false}
 
@@ -73,20 +75,6 @@ accepted-parts rating k t =
       fault = p .1 .1 .1 .1 .1 .1;
     }
 
--- ---- a legal write keeps them accepted
-
-written-parts : (rating : ℕ) (k : Settings) (s : Setting) (v : ℕ) → Parts rating k → legal rating s v ≡ true → Parts rating (withValue k s v)
-written-parts rating k ReceiveId v p h = record { rated = p .rated; receive = h; transmit = p .transmit; speed = p .speed; voltage = p .voltage; warning = p .warning; fault = p .fault }
-written-parts rating k TransmitId v p h = record { rated = p .rated; receive = p .receive; transmit = h; speed = p .speed; voltage = p .voltage; warning = p .warning; fault = p .fault }
-written-parts rating k Speed v p h = record { rated = p .rated; receive = p .receive; transmit = p .transmit; speed = h; voltage = p .voltage; warning = p .warning; fault = p .fault }
-written-parts rating k Voltage v p h = record { rated = p .rated; receive = p .receive; transmit = p .transmit; speed = p .speed; voltage = and-right (leb 1 v) (ltb v rating) h; warning = p .warning; fault = p .fault }
-written-parts rating k WarningLevel v p h = record { rated = p .rated; receive = p .receive; transmit = p .transmit; speed = p .speed; voltage = p .voltage; warning = h; fault = p .fault }
-written-parts rating k FaultLevel v p h = record { rated = p .rated; receive = p .receive; transmit = p .transmit; speed = p .speed; voltage = p .voltage; warning = p .warning; fault = h }
-
-pub written-accepted : (rating : ℕ) (k : Settings) (s : Setting) (v : ℕ) → accepted rating k ≡ true → legal rating s v ≡ true → accepted rating (withValue k s v) ≡ true
-written-accepted rating k s v a h =
-    parts-accepted rating (withValue k s v) (written-parts rating k s v (accepted-parts rating k a) h)
-
 -- ---- what it means for the values
 
 pub level-some : (v : ℕ) → (leb 1 v && leb v 2147483647) ≡ true → 1 ≤ v
@@ -94,3 +82,20 @@ level-some v t = leb-true 1 v (and-left (leb 1 v) (leb v 2147483647) t)
 
 pub voltage-below : (rating : ℕ) (k : Settings) → Parts rating k → k .voltage < rating
 voltage-below rating k p = ltb-true (k .voltage) rating (p .voltage)
+
+-- ---- a code is one setting's
+
+known-code : (s : Setting) → settingOf (code s) ≡ Known s
+known-code ReceiveId = refl
+known-code TransmitId = refl
+known-code Speed = refl
+known-code Voltage = refl
+known-code WarningLevel = refl
+known-code FaultLevel = refl
+
+abbrev named : Named → Setting
+named Unknown = ReceiveId
+named (Known s) = s
+
+pub same-code : (k s : Setting) → code k ≡ code s → k ≡ s
+same-code k s q = ap named (sym (known-code k)) ∙ (ap (λ (c : ℕ). named (settingOf c)) q ∙ ap named (known-code s))

@@ -6,7 +6,6 @@ use mathlib.Core.List.{List, _∷_}
 use mathlib.Core.Logic.{_↔_}
 use mathlib.Core.Option.{Option, Option·getD}
 use Rattle.words.proofs.Tests.{decided, false-true}
-use Rattle.codec.specs.declared.frame.Frame.{Frame}
 use Rattle.maintenance.specs.declared.setting.Setting.{Setting}
 use Rattle.maintenance.specs.declared.setting.Setting.the-variants.{ReceiveId, TransmitId, Speed, Voltage, WarningLevel, FaultLevel}
 use Rattle.maintenance.specs.declared.setting.Settings.{Settings}
@@ -95,9 +94,9 @@ module _ (p : PowerOn) (h : List Event) where
       record {
         only = λ s d. decided (storesAt (lookingBack p) h e) (stores p (lookingBack p) h sessions-back e l) (λ t. absurd (d (ap (λ (k : Settings). valueOf k s) (stays-there e t))));
         takes = λ w s.
-          ap (λ (k : Settings). valueOf k s) (stored-there e (stores-there p (lookingBack p) h sessions-back e l w))
-          ∙ (value-taking (storedAfter p h) (λ x. lastWrite p h x) s
-          ∙ ap (λ (v : Option ℕ). Option·getD v (valueOf (storedAfter p h) s)) (opened-writes p h (w .at) (w .session) s));
+            ap (λ (k : Settings). valueOf k s) (stored-there e (stores-there p (lookingBack p) h sessions-back e l w))
+            ∙ (value-taking (storedAfter p h) (λ x. lastWrite p h x) s
+            ∙ ap (λ (v : Option ℕ). Option·getD v (valueOf (storedAfter p h) s)) (opened-writes p h (w .at) (w .session) s));
         stays = λ n. decided (storesAt (lookingBack p) h e) (λ t. absurd (n (stores p (lookingBack p) h sessions-back e l t))) (stays-there e);
       }
 

@@ -1,10 +1,10 @@
 -- The monitor is what the history says: whatever the run, silence counted, its parts are the answers of the reading that looks back.
 -- Assumes nothing.
-use Prim.Native.Nat.{ℕ, _+_, _≤_, _<_}
+use Prim.Native.Nat.{ℕ, _+_, _≤_}
 use mathlib.Core.Path.{_≡_, refl, sym, ap, _∙_}
 use mathlib.Core.Bool.{Bool, true, false, not, cond, _&&_}
 use mathlib.Core.List.{List, [], _∷_}
-use mathlib.Core.Option.{Option, none, some, Option·getD}
+use mathlib.Core.Option.{Option, none, some}
 use lib.Dec.{leb, ltb}
 use borrow.Author.Tests.{leb-true, leb-false, le-ltb, lt-ltb, ltb-true, ltb-false, le-leb, lt-leb}
 use native.Mathlib.Omega.{arith}
@@ -24,13 +24,13 @@ use Rattle.monitor.specs.declared.unit.Phase.{Phase}
 use Rattle.monitor.specs.declared.unit.Phase.the-variants.{Outside, InSession}
 use Rattle.monitor.specs.declared.unit.Monitor.{Monitor}
 use Rattle.monitor.specs.declared.unit.Turn.{Turn}
-use Rattle.monitor.specs.Times.{later, pastLimit}
+use Rattle.monitor.specs.Times.{later}
 use Rattle.monitor.specs.Rules.{inPhase, sessionAt, goesOn, answered, refused, outside, inside, met, frameMet, woken, wasReset}
-use Rattle.monitor.specs.Events.{Event, frameEvent, resetEvent, PowerOn, stampOf, lastStamp, Run}
+use Rattle.monitor.specs.Events.{Event, frameEvent, resetEvent, PowerOn, lastStamp, Run}
 use Rattle.monitor.specs.Bench.{step, unitAfter}
 use Rattle.monitor.specs.Promise.{isOpen}
-use Rattle.monitor.proofs.Rules.{woken-stored, woken-later, reset-woken}
-use Rattle.monitor.specs.History.{near, timelyUnlock, timelyAnswer, unlocks, answers, commits, writes, leavesOpen, leavesPending, leavesStart, newest, taking, storedAfter, inSession, pendingSince, lastStart, lastWrite, readable, replyToAnswer, replyOutside, replyInside, replyTo}
+use Rattle.monitor.proofs.Rules.{woken-later, reset-woken}
+use Rattle.monitor.specs.History.{near, timelyUnlock, timelyAnswer, commits, writes, leavesOpen, leavesPending, leavesStart, newest, taking, storedAfter, inSession, pendingSince, lastStart, lastWrite, readable, replyToAnswer, replyOutside, replyInside, replyTo}
 
 -- ---- limits of time, as the rules have them
 
@@ -164,11 +164,21 @@ agrees p (frameEvent at storing f ∷ h) r t l =
     (λ x. rw x (met-leaves p (storedAfter p h) (lastStart p h at) (lastHeard p h) (λ s. lastWrite p h s) at t storing f (inSession p h at) (pendingSince p h)))
     (λ x. rw x (ap (woken t) (sym now) ∙ (woken-later at t (unitAfter p h) l ∙ agrees p h (r .1 .1) t (let q = r .1 .0 in omega arith))))
 
--- ---- what is stored
+-- ---- what silence leaves alone
+
+-- the monitor at the newest event, started again there, as a reset would
+restarted : (p : PowerOn) (h : List Event) → Run p h → wasReset (lastStamp p h) (unitAfter p h) ≡ wasReset (lastStamp p h) (found p h (lastStamp p h))
+restarted p h r =
+    reset-woken (lastStamp p h) (unitAfter p h) ∙ ap (wasReset (lastStamp p h)) (agrees p h r (lastStamp p h) (omega arith))
+
+pub unit-serial : (p : PowerOn) (h : List Event) → Run p h → unitAfter p h .serial ≡ p .serial
+unit-serial p h r = ap (λ (t : Turn). t .monitor .serial) (restarted p h r)
+
+pub unit-rating : (p : PowerOn) (h : List Event) → Run p h → unitAfter p h .rating ≡ p .rating
+unit-rating p h r = ap (λ (t : Turn). t .monitor .rating) (restarted p h r)
 
 pub unit-stored : (p : PowerOn) (h : List Event) → Run p h → unitAfter p h .stored ≡ storedAfter p h
-unit-stored p h r =
-    sym (woken-stored (lastStamp p h) (unitAfter p h)) ∙ ap (λ (m : Monitor). m .stored) (agrees p h r (lastStamp p h) (omega arith))
+unit-stored p h r = ap (λ (t : Turn). t .monitor .stored) (restarted p h r)
 
 -- ---- the last start
 

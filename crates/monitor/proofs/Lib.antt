@@ -3,7 +3,6 @@ pub mod Times
 pub mod Rules
 pub mod Events
 pub mod Replies
-pub mod Runs
 pub mod Looking
 pub mod Sessions
 pub mod Starts
@@ -12,5 +11,6 @@ pub mod OneReading
 pub mod History
 pub mod Reached
 pub mod WorkedOut
+pub mod Runs
 pub mod Marked
 pub mod Promise

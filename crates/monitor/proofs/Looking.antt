@@ -1,14 +1,13 @@
 -- Looking back over one event more: what each question answers after a reset, a frame that was heard and one that was not. Assumes nothing.
-use Prim.Native.Nat.{ℕ}
 use mathlib.Core.Path.{_≡_, refl}
 use mathlib.Core.Bool.{Bool, true, false, cond, _&&_}
 use mathlib.Core.List.{List, _∷_, _++_}
-use mathlib.Core.Option.{Option, none}
+use mathlib.Core.Option.{none}
 use Rattle.codec.specs.declared.frame.Frame.{Frame}
 use Rattle.maintenance.specs.declared.setting.Setting.{Setting}
 use Rattle.maintenance.specs.Messages.{message, heardOn}
 use Rattle.monitor.specs.declared.time.Stamp.{Stamp}
-use Rattle.monitor.specs.Events.{Event, frameEvent, resetEvent, PowerOn}
+use Rattle.monitor.specs.Events.{Event, frameEvent, PowerOn}
 use Rattle.monitor.specs.History.{near, timelyUnlock, timelyAnswer, commits, writes, leavesOpen, leavesPending, leavesStart, newest, taking, storedAfter, inSession, pendingSince, lastStart, lastWrite}
 use Rattle.monitor.specs.Demand.{lookingBack, heardIn}
 

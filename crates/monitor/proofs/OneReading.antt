@@ -1,19 +1,18 @@
 -- The demand's words allow one reading: two that meet them say the same of every run, and what agrees with one that meets them meets them too.
 -- Assumes nothing.
-use Prim.Native.Nat.{ℕ, _+_, _≤_, _<_}
+use Prim.Native.Nat.{ℕ, _+_, _≤_}
 use mathlib.Core.Path.{_≡_, refl, sym, ap, subst, _∙_}
 use mathlib.Core.Bool.{Bool, true, false, cond}
 use mathlib.Core.List.{List, [], _∷_, _++_}
 use mathlib.Core.Logic.{_↔_}
 use mathlib.Core.Option.{Option·getD}
 use native.Mathlib.Omega.{arith}
-use Rattle.words.proofs.Tests.{decided, false-true}
 use Rattle.maintenance.specs.declared.setting.Setting.{Setting}
 use Rattle.maintenance.specs.declared.setting.Settings.{Settings}
 use Rattle.maintenance.specs.Settings.{valueOf}
 use Rattle.maintenance.specs.Messages.{heardOn}
 use Rattle.monitor.specs.declared.time.Stamp.{Stamp}
-use Rattle.monitor.specs.Events.{Event, frameEvent, resetEvent, PowerOn, stampOf, lastStamp, Run}
+use Rattle.monitor.specs.Events.{Event, frameEvent, resetEvent, PowerOn, lastStamp, Run}
 use Rattle.monitor.specs.History.{unlocks, answers, commits}
 use Rattle.monitor.specs.Demand.{Reading, Heard, heardIn, No, Close, lastAccepted, Unlocked, Opened, heardSince, Stores, Changes, Silent, Start, at-power-on, at-reset, at-commit, after-silence, LastStart, Demand}
 use Rattle.monitor.proofs.Demand.{same-settings, by-store}
@@ -186,18 +185,18 @@ module _ (p : PowerOn) (r r′ : Reading) (d : Demand p r) (d′ : Demand p r′
       let c′ = d′ .six e h run in
       by-store p r h (d .sessions h (run .1 .1)) e (run .1 .0)
       (λ w.
-        let w′ = stores-same p r r′ h (run .1 .1) s b e w in
-        let value : Setting → Settings → List Heard → ℕ = λ x k l. Option·getD (lastAccepted (p .rating) x l) (valueOf k x) in
-        same-settings (r .stored (e ∷ h)) (r′ .stored (e ∷ h))
-        (λ x.
-          c .takes w x
-          ∙ (ap (λ (l : List Heard). value x (r .stored h) l) (since-same p r r′ h (run .1 .1) b (w .at) (w .session))
-          ∙ (ap (λ (k : Settings). value x k (heardSince p r′ h (w′ .at) (w′ .session))) (s .stored)
-          ∙ sym (c′ .takes w′ x)))))
+      let w′ = stores-same p r r′ h (run .1 .1) s b e w in
+      let value : Setting → Settings → List Heard → ℕ = λ x k l. Option·getD (lastAccepted (p .rating) x l) (valueOf k x) in
+      same-settings (r .stored (e ∷ h)) (r′ .stored (e ∷ h))
+      (λ x.
+      c .takes w x
+      ∙ (ap (λ (l : List Heard). value x (r .stored h) l) (since-same p r r′ h (run .1 .1) b (w .at) (w .session))
+      ∙ (ap (λ (k : Settings). value x k (heardSince p r′ h (w′ .at) (w′ .session))) (s .stored)
+      ∙ sym (c′ .takes w′ x)))))
       (λ none.
-        c .stays none
-        ∙ (s .stored
-        ∙ sym (c′ .stays (λ w. none (stores-same p r′ r h (run .1 .1) (flip p r r′ h s) (flip-before p r r′ h b) e w)))))
+      c .stays none
+      ∙ (s .stored
+      ∙ sym (c′ .stays (λ w. none (stores-same p r′ r h (run .1 .1) (flip p r r′ h s) (flip-before p r r′ h b) e w)))))
 
   all-same : (h : List Event) → Run p h → Same p r r′ h × Before (Same p r r′) h
   all-same [] run = (record { stored = d .first run ∙ sym (d′ .first run); session = sessions-same [] run tt; start = starts-same [] run tt }, tt)
@@ -228,10 +227,10 @@ module _ (p : PowerOn) (r r′ : Reading) (d : Demand p r) (same : (h : List Eve
       record {
         only = λ x q. there (c .only x (λ u. q (ap (λ (k : Settings). valueOf k x) (sym (n .stored)) ∙ (u ∙ ap (λ (k : Settings). valueOf k x) (s .stored)))));
         takes = λ w x.
-          ap (λ (k : Settings). valueOf k x) (sym (n .stored))
-          ∙ (c .takes (back w) x
-          ∙ (ap (λ (l : List Heard). value x (r .stored h) l) (sym (since-same p r′ r h (run .1 .1) (flip-before p r r′ h b) (w .at) (w .session)))
-          ∙ ap (λ (k : Settings). value x k (heardSince p r′ h (w .at) (w .session))) (s .stored)));
+            ap (λ (k : Settings). valueOf k x) (sym (n .stored))
+            ∙ (c .takes (back w) x
+            ∙ (ap (λ (l : List Heard). value x (r .stored h) l) (sym (since-same p r′ r h (run .1 .1) (flip-before p r r′ h b) (w .at) (w .session)))
+            ∙ ap (λ (k : Settings). value x k (heardSince p r′ h (w .at) (w .session))) (s .stored)));
         stays = λ none. sym (n .stored) ∙ (c .stays (λ w. none (there w)) ∙ s .stored);
       }
 

@@ -5,6 +5,7 @@ use Rattle.monitor.proofs.Rules.{unheard, starts}
 use Rattle.monitor.proofs.Replies.{outside-replies, session-replies, meets-woken}
 use Rattle.monitor.proofs.Runs.{holds}
 use Rattle.monitor.proofs.WorkedOut.{runs-accepted, worked-out, demand-3}
+use Rattle.monitor.proofs.Marked.{marked-runs}
 
 pub promise : Promise
 promise =
@@ -21,4 +22,5 @@ promise =
       runs = runs-accepted;
       worked-out = worked-out;
       demand-3 = demand-3;
+      marked = marked-runs;
     }

@@ -1,7 +1,7 @@
 -- Histories reach benches: power-on and an accepted event add to them, a refused one does not. Assumes nothing.
-use Prim.Native.Nat.{ℕ, _≤_}
+use Prim.Native.Nat.{_≤_}
 use mathlib.Core.Path.{_≡_, refl, sym, ap, subst, _∙_}
-use mathlib.Core.Bool.{Bool, true, false, cond}
+use mathlib.Core.Bool.{Bool, true, false}
 use mathlib.Core.List.{List, [], _∷_}
 use borrow.Author.Tests.{le-ltb, ltb-false}
 use Rattle.words.proofs.Tests.{decided, false-true}
@@ -16,7 +16,6 @@ use Rattle.monitor.specs.declared.bench.PoweredOn.{PoweredOn}
 use Rattle.monitor.specs.declared.bench.Outcome.{Outcome}
 use Rattle.monitor.specs.Events.{Event, PowerOn, stampOf, beyond, lastStamp, Run}
 use Rattle.monitor.specs.Bench.{early, step, answeredTo, acceptedAt, poweredOn, benchAt, unitAfter, after}
-use Rattle.monitor.specs.History.{storedAfter, replyTo}
 use Rattle.monitor.specs.Reached.{Reached, Added, EventAnswered, PowerOnAnswered}
 use Rattle.monitor.proofs.History.{unit-stored, unit-reply}
 

@@ -21,8 +21,8 @@ use Rattle.monitor.specs.declared.unit.Session.{Session}
 use Rattle.monitor.specs.declared.unit.Phase.{Phase}
 use Rattle.monitor.specs.declared.unit.Phase.the-variants.{Outside, InSession}
 use Rattle.monitor.specs.declared.unit.Monitor.{Monitor}
-use Rattle.monitor.specs.Times.{later, pastLimit}
-use Rattle.monitor.specs.Rules.{started, wokenBy, woken, ignored, answered, outside, refused, committed, inside, heard, metBy, met, frameMet, framed}
+use Rattle.monitor.specs.Times.{pastLimit}
+use Rattle.monitor.specs.Rules.{wokenBy, woken, ignored, answered, outside, refused, committed, inside, heard, metBy, met, frameMet, framed}
 use Rattle.monitor.specs.Promise.{MeetsAsWoken}
 use Rattle.monitor.proofs.Rules.{woken-later}
 use Rattle.monitor.specs.Replies.{known, coded, Right, OutsideReplies, SessionReplies}

@@ -13,18 +13,23 @@ use Rattle.maintenance.specs.declared.setting.Settings.{Settings}
 use Rattle.monitor.specs.declared.unit.Phase.{Phase}
 use Rattle.monitor.specs.declared.unit.Phase.the-variants.{Outside, InSession}
 use Rattle.monitor.specs.declared.unit.Monitor.{Monitor}
+use Rattle.monitor.specs.declared.unit.Turn.{Turn}
 use Rattle.monitor.specs.Times.{later, pastLimit}
 use Rattle.maintenance.specs.Messages.{quiet}
 use Rattle.monitor.specs.Rules.{turn, startedWith, started, wokenBy, woken, heard, met, wasReset}
 use Rattle.monitor.specs.Promise.{UnheardChangesNothing, Fresh, Starts}
 
-woken-stored-by : (phase : Phase) (at : Stamp) (m : Monitor) → wokenBy phase at m .stored ≡ m .stored
-woken-stored-by (Outside pending) at m = refl
-woken-stored-by (InSession s) at m = decided (pastLimit (s .heard) 2000 at) (λ t. rw t refl) (λ t. rw t refl)
+-- a reset finds the same unit, silence or not
+reset-woken-by : (phase : Phase) (at : Stamp) (m : Monitor) → wasReset at m ≡ wasReset at (wokenBy phase at m)
+reset-woken-by (Outside pending) at m = refl
+reset-woken-by (InSession s) at m = decided (pastLimit (s .heard) 2000 at) (λ t. rw t refl) (λ t. rw t refl)
+
+pub reset-woken : (at : Stamp) (m : Monitor) → wasReset at m ≡ wasReset at (woken at m)
+reset-woken at m = reset-woken-by (m .phase) at m
 
 -- silence stores nothing
-pub woken-stored : (at : Stamp) (m : Monitor) → woken at m .stored ≡ m .stored
-woken-stored at m = woken-stored-by (m .phase) at m
+woken-stored : (at : Stamp) (m : Monitor) → woken at m .stored ≡ m .stored
+woken-stored at m = sym (ap (λ (t : Turn). t .monitor .stored) (reset-woken at m))
 
 -- a silence that a later stamp shows is the one that an earlier stamp has shown
 woken-later-by : (at t : Stamp) (m : Monitor) (phase : Phase) → m .phase ≡ phase → at .0 ≤ t .0 → woken t (woken at m) ≡ woken t m
@@ -40,14 +45,6 @@ woken-later-by at t m (InSession s) e l =
 
 pub woken-later : (at t : Stamp) (m : Monitor) → at .0 ≤ t .0 → woken t (woken at m) ≡ woken t m
 woken-later at t m l = woken-later-by at t m (m .phase) refl l
-
--- a reset finds the same unit, silence or not
-reset-woken-by : (phase : Phase) (at : Stamp) (m : Monitor) → wasReset at m ≡ wasReset at (wokenBy phase at m)
-reset-woken-by (Outside pending) at m = refl
-reset-woken-by (InSession s) at m = decided (pastLimit (s .heard) 2000 at) (λ t. rw t refl) (λ t. rw t refl)
-
-pub reset-woken : (at : Stamp) (m : Monitor) → wasReset at m ≡ wasReset at (woken at m)
-reset-woken at m = reset-woken-by (m .phase) at m
 
 -- it is heard as before
 woken-heard : (at : Stamp) (f : Frame) (m : Monitor) → heard f (woken at m) ≡ heard f m

@@ -1,134 +1,136 @@
--- Runs: after any history the monitor is the same unit, what it stores is legal, and its replies are on the stored identifier.
--- Assumes nothing.
-use Prim.Native.Nat.{ℕ, _+_, _≤_}
-use mathlib.Core.Path.{_≡_, refl, sym, subst}
-use mathlib.Core.Bool.{Bool, true, false, not, _&&_}
+-- After any events at all: the accepted ones make a run, the monitor is the same unit, what it stores is legal, and its replies are on the
+-- stored identifier. Assumes nothing.
+use Prim.Native.Nat.{ℕ, _≤_}
+use mathlib.Core.Path.{_≡_, refl, sym, ap, subst, _∙_}
+use mathlib.Core.Bool.{Bool, true, false, cond, _&&_}
 use mathlib.Core.List.{List, [], _∷_}
-use lib.Dec.{leb}
-use borrow.Author.Tests.{leb-true, ltb-true, ltb-false, le-ltb}
+use mathlib.Core.Option.{Option, none, some, Option·getD, Option·none-ne-some, Option·some-injective}
+use lib.Dec.{leb, ltb, eqb}
+use borrow.Author.Tests.{leb-true, ltb-false, le-ltb, eqb-true}
 use native.Mathlib.Omega.{arith}
 use Rattle.words.proofs.Tests.{decided, false-true}
+use Rattle.refusal.specs.declared.Refusal.{Refusal}
 use Rattle.codec.specs.declared.frame.Frame.{Frame}
+use Rattle.codec.specs.declared.frame.Answer.{Answer}
+use Rattle.codec.specs.declared.frame.Answer.the-variants.{Accepted, Refused}
 use Rattle.codec.specs.Building.{buildReport}
-use Rattle.monitor.specs.declared.time.Stamp.{Stamp}
+use Rattle.maintenance.specs.declared.setting.Setting.{Setting}
+use Rattle.maintenance.specs.declared.setting.Setting.the-variants.{ReceiveId, TransmitId, Speed, Voltage, WarningLevel, FaultLevel}
 use Rattle.maintenance.specs.declared.setting.Settings.{Settings}
 use Rattle.maintenance.specs.declared.message.Message.{Message}
-use Rattle.maintenance.specs.declared.message.Message.the-variants.{Other, Unlock, Commit, Answer, SerialRequest, Read, Write}
-use Rattle.monitor.specs.declared.unit.Pending.{Pending}
-use Rattle.monitor.specs.declared.unit.Pending.the-variants.{Nothing, Since}
-use Rattle.monitor.specs.declared.unit.Phase.{Phase}
-use Rattle.monitor.specs.declared.unit.Phase.the-variants.{Outside, InSession}
-use Rattle.monitor.specs.declared.unit.Monitor.{Monitor}
+use Rattle.maintenance.specs.declared.message.Reply.{Reply}
+use Rattle.maintenance.specs.declared.message.Message.the-variants.{Other, Unlock, Commit, Answer as Answered, SerialRequest, Read, Write}
+use Rattle.maintenance.specs.Settings.{code, legal}
+use Rattle.maintenance.specs.Messages.{message, heardOn, quiet, ack, nak, challenged, serialReport}
+use Rattle.maintenance.proofs.Messages.{Listed, serial-listed, and-left, and-right}
+use Rattle.maintenance.proofs.Settings.{Parts, accepted-parts, parts-accepted, level-some, voltage-below, same-code}
+use Rattle.monitor.specs.declared.time.Stamp.{Stamp}
 use Rattle.monitor.specs.declared.bench.Bench.{Bench}
-use Rattle.monitor.specs.Times.{later, pastLimit}
-use Rattle.maintenance.specs.Settings.{legal, accepted, withValue}
-use Rattle.maintenance.specs.Messages.{message, isRight, quiet, serialReport}
-use Rattle.monitor.specs.Rules.{inPhase, transmitId, started, wokenBy, woken, unlocked, sessionAt, answered, outside, inside, heard, metBy, frameMet}
-use Rattle.monitor.specs.Events.{Event, frameEvent, resetEvent, PowerOn, IsAccepted, stampOf, beyond}
-use Rattle.monitor.specs.Bench.{early, step, answeredTo, after}
+use Rattle.monitor.specs.Times.{earlier}
+use Rattle.monitor.specs.Rules.{woken}
+use Rattle.monitor.specs.Events.{Event, frameEvent, resetEvent, PowerOn, IsAccepted, stampOf, beyond, lastStamp, Run, acceptedOf}
+use Rattle.monitor.specs.Bench.{early, answeredTo, after}
+use Rattle.monitor.specs.History.{timelyUnlock, timelyAnswer, commits, writes, newest, taking, storedAfter, inSession, pendingSince, lastStart, lastWrite, replyToAnswer, replyOutside, replyInside, replyTo}
 use Rattle.monitor.specs.Promise.{OnIdentifier, Holds}
-use Rattle.maintenance.proofs.Messages.{Listed, serial-listed}
-use Rattle.maintenance.proofs.Settings.{accepted-parts, written-accepted, level-some, voltage-below}
-use Rattle.monitor.proofs.Rules.{woken-stored}
+use Rattle.monitor.proofs.Looking.{write-heard, write-unheard}
+use Rattle.monitor.proofs.Starts.{bound}
+use Rattle.monitor.proofs.Reached.{bench-after, event-answered}
+use Rattle.monitor.proofs.WorkedOut.{worked-out, runs-accepted, same-serial, same-rating}
 
--- ---- the invariant
+-- ---- what is accepted of any events
 
--- a draft is legal
-abbrev Drafts : ℕ → Phase → Type 0
-Drafts rating (Outside pending) = Unit
-Drafts rating (InSession s) = accepted rating (s .draft) ≡ true
+accepted-run : (p : PowerOn) → IsAccepted p → (h : List Event) → Run p (acceptedOf p h)
+accepted-run p a [] = a
+accepted-run p a (e ∷ h) =
+    decided (beyond e)
+    (λ x. rw x (accepted-run p a h))
+    (λ x. decided (earlier (stampOf e) (lastStamp p (acceptedOf p h)))
+    (λ y. rw (x, y) (accepted-run p a h))
+    (λ y. rw (x, y) (x, (ltb-false (stampOf e .0) (lastStamp p (acceptedOf p h) .0) y, accepted-run p a h))))
 
--- the unit that was powered on, with legal settings, started no later than t
-record Fit (p : PowerOn) (t : ℕ) (m : Monitor) : Type 0 where
-  serial : m .serial ≡ p .serial
-  rating : m .rating ≡ p .rating
-  stored : accepted (p .rating) (m .stored) ≡ true
-  draft : Drafts (p .rating) (m .phase)
-  start : m .start .0 ≤ t
+refused-over : (e : Event) (b : Bench) → beyond e ≡ true → answeredTo e b .bench ≡ b
+refused-over e b x = rw x refl
+
+refused-early : (e : Event) (b : Bench) → beyond e ≡ false → early e b ≡ true → answeredTo e b .bench ≡ b
+refused-early e b x y = rw (x, y) refl
+
+accepted-same : (p : PowerOn) → IsAccepted p → (h : List Event) → after p h ≡ after p (acceptedOf p h)
+accepted-same p a [] = refl
+accepted-same p a (e ∷ h) =
+    let g = acceptedOf p h in
+    let before : after p h ≡ after p g = accepted-same p a h in
+    let last : early e (after p h) ≡ earlier (stampOf e) (lastStamp p g) = ap (λ (b : Bench). early e b) (before ∙ bench-after p g (accepted-run p a h)) in
+    decided (beyond e)
+    (λ x. let left : acceptedOf p (e ∷ h) ≡ g = rw x refl in refused-over e (after p h) x ∙ (before ∙ ap (after p) (sym left)))
+    (λ x. decided (earlier (stampOf e) (lastStamp p g))
+    (λ y. let left : acceptedOf p (e ∷ h) ≡ g = rw (x, y) refl in refused-early e (after p h) x (last ∙ y) ∙ (before ∙ ap (after p) (sym left)))
+    (λ y. let kept : acceptedOf p (e ∷ h) ≡ (e ∷ g) = rw (x, y) refl in ap (λ (b : Bench). answeredTo e b .bench) before ∙ ap (after p) (sym kept)))
+
+-- ---- what is stored is legal
+
+nothing : {X : Type 0} (v : ℕ) → _≡_ {A = Option ℕ} none (some v) → X
+nothing v e = absurd (Option·none-ne-some v e)
+
+-- a write is accepted only if it is legal
+writes-legal : (rating : ℕ) (s : Setting) (x : Message) (v : ℕ) → writes rating s x ≡ some v → legal rating s v ≡ true
+writes-legal rating s Unlock v e = nothing v e
+writes-legal rating s Answered v e = nothing v e
+writes-legal rating s Commit v e = nothing v e
+writes-legal rating s (SerialRequest mux) v e = nothing v e
+writes-legal rating s (Read k) v e = nothing v e
+writes-legal rating s (Write k u) v e =
+    decided (legal rating k u && eqb (code k) (code s))
+    (λ t.
+    let its : k ≡ s = same-code k s (eqb-true (code k) (code s) (and-right (legal rating k u) (eqb (code k) (code s)) t)) in
+    let same : u ≡ v = Option·some-injective u v (rw t at e) in
+    subst (λ (n : ℕ). legal rating s n ≡ true) same (subst (λ (i : Setting). legal rating i u ≡ true) its (and-left (legal rating k u) (eqb (code k) (code s)) t)))
+    (λ t. nothing v (rw t at e))
+writes-legal rating s Other v e = nothing v e
+
+newest-legal : (P : ℕ → Type 0) (new old : Option ℕ) (v : ℕ) → ((n : ℕ) → new ≡ some n → P n) → ((n : ℕ) → old ≡ some n → P n) → newest new old ≡ some v → P v
+newest-legal P none old v n o e = o v e
+newest-legal P (some u) old v n o e = n v e
 
 module _ (p : PowerOn) where
-  in-phase : (t : ℕ) (phase : Phase) (m : Monitor) → Drafts (p .rating) phase → Fit p t m → Fit p t (inPhase phase m)
-  in-phase t phase m d fit =
-      record { serial = fit .serial; rating = fit .rating; stored = fit .stored; draft = d; start = fit .start }
+  written-legal : (h : List Event) (s : Setting) (v : ℕ) → lastWrite p h s ≡ some v → legal (p .rating) s v ≡ true
+  unfolding storedAfter
+  written-legal [] s v e = nothing v e
+  written-legal (resetEvent at ∷ h) s v e = nothing v e
+  written-legal (frameEvent at storing f ∷ h) s v e =
+      decided (heardOn (storedAfter p h) f)
+      (λ x. decided (inSession p h at)
+      (λ o.
+      let new = writes (p .rating) s (message f) in
+      let now : newest new (lastWrite p h s) ≡ some v = sym (write-heard p at storing f h x s ∙ ap (λ (b : Bool). cond b (newest new (lastWrite p h s)) none) o) ∙ e in
+      newest-legal (λ n. legal (p .rating) s n ≡ true) new (lastWrite p h s) v (writes-legal (p .rating) s (message f)) (written-legal h s) now)
+      (λ o. nothing v (sym (write-heard p at storing f h x s ∙ ap (λ (b : Bool). cond b (newest (writes (p .rating) s (message f)) (lastWrite p h s)) none) o) ∙ e)))
+      (λ x. written-legal h s v (sym (write-unheard p at storing f h x s) ∙ e))
 
-  start-again : (t : ℕ) (at : Stamp) (k : Settings) (m : Monitor) → at .0 ≤ t → accepted (p .rating) k ≡ true → (u : ℕ) → Fit p u m → Fit p t (started at k m)
-  start-again t at k m h a u fit =
-      record { serial = fit .serial; rating = fit .rating; stored = a; draft = tt; start = h }
+  -- what takes legal writes is legal
+  taken : (P : ℕ → Type 0) (w : Option ℕ) (k : ℕ) → P k → ((v : ℕ) → w ≡ some v → P v) → P (Option·getD w k)
+  taken P none k a b = a
+  taken P (some v) k a b = b v refl
 
-  -- ---- each rule keeps it
+  taking-legal : (k : Settings) (written : Setting → Option ℕ) → Parts (p .rating) k → ((s : Setting) (v : ℕ) → written s ≡ some v → legal (p .rating) s v ≡ true) → Parts (p .rating) (taking k written)
+  taking-legal k written a l =
+      record {
+        rated = a .rated;
+        receive = taken (λ v. legal (p .rating) ReceiveId v ≡ true) (written ReceiveId) (k .receive) (a .receive) (l ReceiveId);
+        transmit = taken (λ v. legal (p .rating) TransmitId v ≡ true) (written TransmitId) (k .transmit) (a .transmit) (l TransmitId);
+        speed = taken (λ v. legal (p .rating) Speed v ≡ true) (written Speed) (k .speed) (a .speed) (l Speed);
+        voltage = taken (λ v. ltb v (p .rating) ≡ true) (written Voltage) (k .voltage) (a .voltage) (λ v q. and-right (leb 1 v) (ltb v (p .rating)) (l Voltage v q));
+        warning = taken (λ v. legal (p .rating) WarningLevel v ≡ true) (written WarningLevel) (k .warning) (a .warning) (l WarningLevel);
+        fault = taken (λ v. legal (p .rating) FaultLevel v ≡ true) (written FaultLevel) (k .fault) (a .fault) (l FaultLevel);
+      }
 
-  woken-by : (phase : Phase) (at : Stamp) (m : Monitor) (t : ℕ) → t ≤ at .0 → Fit p t m → Fit p (at .0) (wokenBy phase at m)
-  woken-by (Outside pending) at m t h fit =
-      record { serial = fit .serial; rating = fit .rating; stored = fit .stored; draft = fit .draft; start = let s = fit .start in omega arith }
-  woken-by (InSession s) at m t h fit =
-      decided (pastLimit (s .heard) 2000 at)
-      (λ x. rw x (start-again (at .0) (later (s .heard) 2000) (m .stored) m (let q = ltb-true (s .heard .0 + 2000) (at .0) x in omega arith) (fit .stored) t fit))
-      (λ x. rw x (record { serial = fit .serial; rating = fit .rating; stored = fit .stored; draft = fit .draft; start = let s = fit .start in omega arith }))
-
-  unlock-fit : (t : ℕ) (at : Stamp) (m : Monitor) → Fit p t m → Fit p t (unlocked at m .monitor)
-  unlock-fit t at m fit =
-      decided (pastLimit (m .start) 10000 at)
-      (λ x. rw x (in-phase t (Outside Nothing) m tt fit))
-      (λ x. rw x (in-phase t (Outside (Since at)) m tt fit))
-
-  answer-fit : (t : ℕ) (pending : Pending) (at : Stamp) (f : Frame) (m : Monitor) → Fit p t m → Fit p t (answered pending at f m .monitor)
-  answer-fit t Nothing at f m fit = fit
-  answer-fit t (Since since) at f m fit =
-      decided (isRight (m .serial) f && not (pastLimit since 2000 at))
-      (λ x. rw x (in-phase t (sessionAt at (m .stored)) m (fit .stored) fit))
-      (λ x. rw x (in-phase t (Outside Nothing) m tt fit))
-
-  outside-fit : (t : ℕ) (x : Message) (pending : Pending) (at : Stamp) (f : Frame) (m : Monitor) → Fit p t m → Fit p t (outside x pending at f m .monitor)
-  outside-fit t Other pending at f m fit = fit
-  outside-fit t Unlock pending at f m fit = unlock-fit t at m fit
-  outside-fit t Commit pending at f m fit = fit
-  outside-fit t Answer pending at f m fit = answer-fit t pending at f m fit
-  outside-fit t (SerialRequest mux) pending at f m fit = fit
-  outside-fit t (Read s) pending at f m fit = fit
-  outside-fit t (Write s v) pending at f m fit = fit
-
-  module _ (at : Stamp) (draft : Settings) (legal-draft : accepted (p .rating) draft ≡ true) (m : Monitor) (fit : Fit p (at .0) m) where
-    goes-on : (k : Settings) → accepted (p .rating) k ≡ true → Fit p (at .0) (inPhase (sessionAt at k) m)
-    goes-on k a = in-phase (at .0) (sessionAt at k) m a fit
-
-    inside-fit : (x : Message) (storing : Bool) → Fit p (at .0) (inside x draft at storing m .monitor)
-    inside-fit Other storing = goes-on draft legal-draft
-    inside-fit Unlock storing = goes-on draft legal-draft
-    inside-fit Commit true = start-again (at .0) at draft m (omega arith) legal-draft (at .0) fit
-    inside-fit Commit false = start-again (at .0) at (m .stored) m (omega arith) (fit .stored) (at .0) fit
-    inside-fit Answer storing = goes-on draft legal-draft
-    inside-fit (SerialRequest mux) storing = goes-on draft legal-draft
-    inside-fit (Read s) storing = goes-on draft legal-draft
-    inside-fit (Write s v) storing =
-        decided (legal (m .rating) s v)
-        (λ x. rw x (goes-on (withValue draft s v) (written-accepted (p .rating) draft s v legal-draft (subst (λ (r : ℕ). legal r s v ≡ true) (fit .rating) x))))
-        (λ x. rw x (goes-on draft legal-draft))
-
-  met-fit : (phase : Phase) (at : Stamp) (storing : Bool) (f : Frame) (m : Monitor) → Drafts (p .rating) phase → Fit p (at .0) m → Fit p (at .0) (metBy phase at storing f m .monitor)
-  met-fit (Outside pending) at storing f m d fit = outside-fit (at .0) (message f) pending at f m fit
-  met-fit (InSession s) at storing f m d fit = inside-fit at (s .draft) d m fit (message f) storing
-
-  -- ---- each event keeps it
-
-  step-fit : (e : Event) (m : Monitor) (t : ℕ) → t ≤ stampOf e .0 → Fit p t m → Fit p (stampOf e .0) (step e m .monitor)
-  step-fit (frameEvent at storing f) m t h fit =
-      let w = woken-by (m .phase) at m t h fit in
-      decided (heard f (woken at m))
-      (λ x. rw x (met-fit (woken at m .phase) at storing f (woken at m) (w .draft) w))
-      (λ x. rw x w)
-  step-fit (resetEvent at) m t h fit = start-again (at .0) at (m .stored) m (omega arith) (fit .stored) t fit
-
-  event-fit : (e : Event) (b : Bench) → Fit p (b .last .0) (b .monitor) → Fit p (answeredTo e b .bench .last .0) (answeredTo e b .bench .monitor)
-  event-fit e b fit =
-      decided (beyond e)
-      (λ x. rw x fit)
-      (λ x. decided (early e b)
-      (λ y. rw (x, y) fit)
-      (λ y. rw (x, y) (step-fit e (b .monitor) (b .last .0) (ltb-false (stampOf e .0) (b .last .0) y) fit)))
-
-  after-fit : IsAccepted p → (h : List Event) → Fit p (after p h .last .0) (after p h .monitor)
-  after-fit a [] = rw (after, a) (record { serial = refl; rating = refl; stored = a; draft = tt; start = omega arith })
-  after-fit a (e ∷ h) = event-fit e (after p h) (after-fit a h)
+  stored-legal : IsAccepted p → (h : List Event) → Parts (p .rating) (storedAfter p h)
+  unfolding storedAfter
+  stored-legal a [] = accepted-parts (p .rating) (p .settings) a
+  stored-legal a (resetEvent at ∷ h) = stored-legal a h
+  stored-legal a (frameEvent at storing f ∷ h) =
+      decided (heardOn (storedAfter p h) f && inSession p h at && commits (message f) && storing)
+      (λ t. rw t (taking-legal (storedAfter p h) (λ s. lastWrite p h s) (stored-legal a h) (written-legal h)))
+      (λ t. rw t (stored-legal a h))
 
 -- ---- replies on an identifier
 
@@ -140,65 +142,77 @@ unfolding buildReport
 serial-on i serial mux h low high s =
     rw (le-ltb 0x1FFFFFFF i (leb-true i 0x1FFFFFFF h), le-ltb mux 0x01 (omega arith), le-ltb 0x0B mux high) (refl, refl)
 
-unlock-on : (at : Stamp) (m : Monitor) → OnIdentifier (transmitId m) (unlocked at m .reply)
-unlock-on at m =
-    decided (pastLimit (m .start) 10000 at) (λ x. rw x (λ s. (refl, refl))) (λ x. rw x (λ s. (refl, refl)))
+-- one of two replies
+either-on : (i : ℕ) (b : Bool) (x y : Reply) → OnIdentifier i x → OnIdentifier i y → OnIdentifier i (cond b x y)
+either-on i true x y p q = p
+either-on i false x y p q = q
 
-answer-on : (pending : Pending) (at : Stamp) (f : Frame) (m : Monitor) → OnIdentifier (transmitId m) (answered pending at f m .reply)
-answer-on Nothing at f m = silent-on (transmitId m)
-answer-on (Since since) at f m =
-    decided (isRight (m .serial) f && not (pastLimit since 2000 at)) (λ x. rw x (λ s. (refl, refl))) (λ x. rw x (λ s. (refl, refl)))
+answer-on : (i : ℕ) (pending : Option Stamp) (right : Bool) → OnIdentifier i (replyToAnswer i pending right)
+answer-on i none right = silent-on i
+answer-on i (some since) right = either-on i right (ack i) (nak i) (λ s. (refl, refl)) (λ s. (refl, refl))
 
-outside-on : (x : Message) → Listed x → (pending : Pending) (at : Stamp) (f : Frame) (m : Monitor) → leb (transmitId m) 0x1FFFFFFF ≡ true → OnIdentifier (transmitId m) (outside x pending at f m .reply)
-outside-on Other l pending at f m h = silent-on (transmitId m)
-outside-on Unlock l pending at f m h = unlock-on at m
-outside-on Commit l pending at f m h = silent-on (transmitId m)
-outside-on Answer l pending at f m h = answer-on pending at f m
-outside-on (SerialRequest mux) l pending at f m h = serial-on (transmitId m) (m .serial) mux h (l .0) (l .1)
-outside-on (Read s) l pending at f m h = silent-on (transmitId m)
-outside-on (Write s v) l pending at f m h = silent-on (transmitId m)
+module _ (p : PowerOn) (h : List Event) (i : ℕ) where
+  outside-on : (x : Message) → Listed x → leb i 0x1FFFFFFF ≡ true → (at : Stamp) (f : Frame) → OnIdentifier i (replyOutside p h i at f x)
+  outside-on Unlock l q at f =
+      either-on i (timelyUnlock (lastStart p h at) at) (challenged i (p .serial)) (nak i) (λ s. (refl, refl)) (λ s. (refl, refl))
+  outside-on Answered l q at f = answer-on i (pendingSince p h) (timelyAnswer (p .serial) f (pendingSince p h) at)
+  outside-on (SerialRequest mux) l q at f = serial-on i (p .serial) mux q (l .0) (l .1)
+  outside-on Commit l q at f = silent-on i
+  outside-on (Read s) l q at f = silent-on i
+  outside-on (Write s v) l q at f = silent-on i
+  outside-on Other l q at f = silent-on i
 
-inside-on : (x : Message) (draft : Settings) (at : Stamp) (storing : Bool) (m : Monitor) → OnIdentifier (transmitId m) (inside x draft at storing m .reply)
-inside-on Other draft at storing m = λ s. (refl, refl)
-inside-on Unlock draft at storing m = λ s. (refl, refl)
-inside-on Commit draft at true m = λ s. (refl, refl)
-inside-on Commit draft at false m = λ s. (refl, refl)
-inside-on Answer draft at storing m = λ s. (refl, refl)
-inside-on (SerialRequest mux) draft at storing m = λ s. (refl, refl)
-inside-on (Read s) draft at storing m = λ t. (refl, refl)
-inside-on (Write s v) draft at storing m =
-    decided (legal (m .rating) s v) (λ x. rw x (λ t. (refl, refl))) (λ x. rw x (λ t. (refl, refl)))
+  inside-on : (x : Message) (storing : Bool) → OnIdentifier i (replyInside p h i storing x)
+  inside-on (Read s) storing = λ t. (refl, refl)
+  inside-on (Write s v) storing = either-on i (legal (p .rating) s v) (ack i) (nak i) (λ t. (refl, refl)) (λ t. (refl, refl))
+  inside-on Commit storing = either-on i storing (ack i) (nak i) (λ t. (refl, refl)) (λ t. (refl, refl))
+  inside-on Unlock storing = λ t. (refl, refl)
+  inside-on Answered storing = λ t. (refl, refl)
+  inside-on (SerialRequest mux) storing = λ t. (refl, refl)
+  inside-on Other storing = λ t. (refl, refl)
 
-met-on : (phase : Phase) (at : Stamp) (storing : Bool) (f : Frame) (m : Monitor) → leb (transmitId m) 0x1FFFFFFF ≡ true → OnIdentifier (transmitId m) (metBy phase at storing f m .reply)
-met-on (Outside pending) at storing f m h = outside-on (message f) (serial-listed f) pending at f m h
-met-on (InSession s) at storing f m h = inside-on (message f) (s .draft) at storing m
+reply-on : (p : PowerOn) (h : List Event) (e : Event) → leb (storedAfter p h .transmit) 0x1FFFFFFF ≡ true → OnIdentifier (storedAfter p h .transmit) (replyTo p h e)
+reply-on p h (resetEvent at) q = silent-on (storedAfter p h .transmit)
+reply-on p h (frameEvent at storing f) q =
+    let i = storedAfter p h .transmit in
+    either-on i (heardOn (storedAfter p h) f) (cond (inSession p h at) (replyInside p h i storing (message f)) (replyOutside p h i at f (message f))) quiet
+    (either-on i (inSession p h at) (replyInside p h i storing (message f)) (replyOutside p h i at f (message f))
+    (inside-on p h i (message f) storing)
+    (outside-on p h i (message f) (serial-listed f) q at f))
+    (silent-on i)
 
--- a frame met by the monitor that silence leaves, whose identifier is the one stored before
-framed-on : (at : Stamp) (storing : Bool) (f : Frame) (m w : Monitor) → w .stored ≡ m .stored → leb (transmitId m) 0x1FFFFFFF ≡ true → OnIdentifier (transmitId m) (frameMet at storing f w .reply)
-framed-on at storing f m w k h =
-    let h′ : leb (transmitId w) 0x1FFFFFFF ≡ true = subst (λ (x : Settings). leb (x .transmit) 0x1FFFFFFF ≡ true) (sym k) h in
-    subst (λ (x : Settings). OnIdentifier (x .transmit) (frameMet at storing f w .reply)) k
-    (decided (heard f w)
-    (λ x. rw x (met-on (w .phase) at storing f w h′))
-    (λ x. rw x (silent-on (transmitId w))))
+-- an event of a run is answered from the history, and a refused one not at all
+answered-on : (p : PowerOn) (h : List Event) → Run p h → leb (storedAfter p h .transmit) 0x1FFFFFFF ≡ true → (e : Event) → OnIdentifier (storedAfter p h .transmit) (answeredTo e (after p h) .reply)
+answered-on p h r q e =
+    by-answer (answeredTo e (after p h) .answer)
+    (λ a. subst (OnIdentifier (storedAfter p h .transmit)) (sym (worked-out p h r .reply e (runs-accepted p .event e h r .1 a))) (reply-on p h e q))
+    (λ why a. subst (OnIdentifier (storedAfter p h .transmit)) (sym (event-answered e (after p h) (answeredTo e (after p h)) refl .refused why a .1)) (silent-on (storedAfter p h .transmit)))
+  where
+    by-answer : {X : Type 0} (a : Answer) → (a ≡ Accepted → X) → ((why : Refusal) → a ≡ Refused why → X) → X
+    by-answer Accepted yes′ no′ = yes′ refl
+    by-answer (Refused why) yes′ no′ = no′ why refl
 
-step-on : (e : Event) (m : Monitor) → leb (transmitId m) 0x1FFFFFFF ≡ true → OnIdentifier (transmitId m) (step e m .reply)
-step-on (frameEvent at storing f) m h = framed-on at storing f m (woken at m) (woken-stored at m) h
-step-on (resetEvent at) m h = silent-on (transmitId m)
-
--- ---- what holds after a history
+-- ---- what holds after any events
 
 pub holds : (p : PowerOn) → IsAccepted p → (h : List Event) → Holds p h
 holds p a h =
-    let fit = after-fit p a h in
-    let parts = accepted-parts (p .rating) (after p h .monitor .stored) (fit .stored) in
+    let g = acceptedOf p h in
+    let r = accepted-run p a h in
+    let q = accepted-same p a h in
+    let parts = stored-legal p a g in
+    let stored : after p h .monitor .stored ≡ storedAfter p g = ap (λ (b : Bench). b .monitor .stored) q ∙ worked-out p g r .stored in
+    let last : after p h .last ≡ lastStamp p g = ap (λ (b : Bench). b .last) (q ∙ bench-after p g r) in
     record {
-      serial = fit .serial;
-      rating = fit .rating;
-      legal = fit .stored;
-      warning = level-some (after p h .monitor .stored .warning) (parts .warning);
-      fault = level-some (after p h .monitor .stored .fault) (parts .fault);
-      voltage = voltage-below (p .rating) (after p h .monitor .stored) parts;
-      identifier = λ e. step-on e (after p h .monitor) (parts .transmit);
-      start = λ at l. woken-by p (after p h .monitor .phase) at (after p h .monitor) (after p h .last .0) l fit .start;
+      run = r;
+      same = q;
+      serial = ap (λ (b : Bench). b .monitor .serial) q ∙ same-serial p g r;
+      rating = ap (λ (b : Bench). b .monitor .rating) q ∙ same-rating p g r;
+      legal = rw stored (parts-accepted (p .rating) (storedAfter p g) parts);
+      warning = rw stored (level-some (storedAfter p g .warning) (parts .warning));
+      fault = rw stored (level-some (storedAfter p g .fault) (parts .fault));
+      voltage = rw stored (voltage-below (p .rating) (storedAfter p g) parts);
+      identifier = λ e. rw (stored, ap (λ (b : Bench). answeredTo e b .reply) q) (answered-on p g r (parts .transmit) e);
+      start = λ at l.
+          let l′ : lastStamp p g .0 ≤ at .0 = subst (λ (s : Stamp). s .0 ≤ at .0) last l in
+          subst (λ (s : Stamp). s .0 ≤ at .0) (sym (ap (λ (b : Bench). woken at (b .monitor) .start) q ∙ worked-out p g r .start at l′)) (bound p g r at l′);
     }

@@ -1,7 +1,7 @@
 -- A session is open exactly where the words say so, and its last accepted writes are those that were heard. Assumes nothing.
 use Prim.Native.Nat.{ℕ, _+_, _≤_}
 use mathlib.Core.Path.{_≡_, refl, sym, ap, subst, _∙_}
-use mathlib.Core.Bool.{Bool, true, false, not, cond, _&&_}
+use mathlib.Core.Bool.{Bool, true, false, _&&_}
 use mathlib.Core.List.{List, [], _∷_, _++_}
 use mathlib.Core.Option.{Option, none, some, Option·none-ne-some, Option·some-injective}
 use lib.Dec.{leb}
@@ -12,7 +12,7 @@ use Rattle.maintenance.specs.declared.setting.Setting.{Setting}
 use Rattle.maintenance.specs.declared.message.Message.{Message}
 use Rattle.maintenance.specs.declared.message.Message.the-variants.{Other, Unlock, Commit, Answer, SerialRequest, Read, Write}
 use Rattle.maintenance.specs.Messages.{message, heardOn, isRight}
-use Rattle.maintenance.proofs.Messages.{and-left, and-right, and-false}
+use Rattle.maintenance.proofs.Messages.{and-left, and-right}
 use Rattle.monitor.specs.declared.time.Stamp.{Stamp}
 use Rattle.monitor.specs.Events.{Event, frameEvent, resetEvent, PowerOn}
 use Rattle.monitor.specs.History.{near, timelyUnlock, timelyAnswer, unlocks, answers, commits, writes, leavesOpen, leavesPending, newest, storedAfter, inSession, pendingSince, lastStart, lastWrite}
@@ -21,16 +21,7 @@ use Rattle.monitor.proofs.Looking.{session-unheard, pending-unheard, wr
 
 -- ---- what a message is
 
-pub unlocks-only : (x : Message) → unlocks x ≡ true → x ≡ Unlock
-unlocks-only Unlock e = refl
-unlocks-only Answer e = false-true (sym e)
-unlocks-only Commit e = false-true (sym e)
-unlocks-only (SerialRequest mux) e = false-true (sym e)
-unlocks-only (Read s) e = false-true (sym e)
-unlocks-only (Write s v) e = false-true (sym e)
-unlocks-only Other e = false-true (sym e)
-
-pub answers-only : (x : Message) → answers x ≡ true → x ≡ Answer
+answers-only : (x : Message) → answers x ≡ true → x ≡ Answer
 answers-only Unlock e = false-true (sym e)
 answers-only Answer e = refl
 answers-only Commit e = false-true (sym e)

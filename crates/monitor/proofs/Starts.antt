@@ -1,15 +1,13 @@
 -- The last start is the latest of the four. Assumes nothing.
-use Prim.Native.Nat.{ℕ, _+_, _≤_, _<_}
+use Prim.Native.Nat.{_+_, _≤_, _<_}
 use mathlib.Core.Path.{_≡_, refl, sym, ap, subst, _∙_}
-use mathlib.Core.Bool.{Bool, true, false, not, cond, _&&_}
+use mathlib.Core.Bool.{Bool, true, false, _&&_}
 use mathlib.Core.List.{List, [], _∷_, _++_, append-nil}
-use lib.Dec.{leb}
 use borrow.Author.Tests.{leb-true, leb-false, le-leb, lt-leb, not-true}
 use native.Mathlib.Omega.{arith}
 use Rattle.words.proofs.Tests.{decided, false-true}
 use Rattle.codec.specs.declared.frame.Frame.{Frame}
 use Rattle.maintenance.specs.declared.message.Message.{Message}
-use Rattle.maintenance.specs.declared.message.Message.the-variants.{Commit}
 use Rattle.maintenance.specs.Messages.{message, heardOn}
 use Rattle.maintenance.proofs.Messages.{and-left, and-right}
 use Rattle.monitor.specs.declared.time.Stamp.{Stamp}
@@ -45,7 +43,7 @@ no-sooner o x right at t u before b l =
     (λ m. rw (c, m) (omega arith)))
 
 module _ (p : PowerOn) where
-  bound : (h : List Event) → Run p h → (t : Stamp) → lastStamp p h .0 ≤ t .0 → lastStart p h t .0 ≤ t .0
+  pub bound : (h : List Event) → Run p h → (t : Stamp) → lastStamp p h .0 ≤ t .0 → lastStart p h t .0 ≤ t .0
   unfolding storedAfter
   bound [] r t l = l
   bound (resetEvent at ∷ h) r t l = l

@@ -1,10 +1,7 @@
 -- After every run of accepted events the bench is what the history says, and its monitor meets the demand in its own words. Assumes nothing.
-use Prim.Native.Nat.{_≤_}
 use mathlib.Core.Path.{_≡_, refl, sym, ap, _∙_}
-use mathlib.Core.List.{List, [], _∷_}
-use Rattle.codec.specs.declared.frame.Answer.the-variants.{Accepted}
+use mathlib.Core.List.{List}
 use Rattle.maintenance.specs.Settings.{accepted}
-use Rattle.monitor.specs.declared.time.Stamp.{Stamp}
 use Rattle.monitor.specs.declared.unit.Monitor.{Monitor}
 use Rattle.monitor.specs.declared.bench.Bench.{Bench}
 use Rattle.monitor.specs.declared.bench.Outcome.{Outcome}
@@ -13,7 +10,7 @@ use Rattle.monitor.specs.Events.{Event, PowerOn, Run}
 use Rattle.monitor.specs.Bench.{unitAfter, after}
 use Rattle.monitor.specs.Demand.{lookingBack}
 use Rattle.monitor.specs.Promise.{isOpen, stateOf, RunsAreAccepted, WorkedOut, Demand3}
-use Rattle.monitor.proofs.History.{unit-stored, unit-session, unit-start, unit-reply}
+use Rattle.monitor.proofs.History.{unit-serial, unit-rating, unit-stored, unit-session, unit-start, unit-reply}
 use Rattle.monitor.proofs.Reached.{bench-after, accepted-next, run-further, run-on}
 use Rattle.monitor.proofs.Demand.{demand-back}
 use Rattle.monitor.proofs.OneReading.{Same, one-reading, meets-too}
@@ -64,3 +61,11 @@ demand-3 p =
       history = demand-back p;
       one = one-reading p;
     }
+
+-- ---- the same unit
+
+pub same-serial : (p : PowerOn) (h : List Event) → Run p h → after p h .monitor .serial ≡ p .serial
+same-serial p h r = ap (λ (m : Monitor). m .serial) (unit-there p h r) ∙ unit-serial p h r
+
+pub same-rating : (p : PowerOn) (h : List Event) → Run p h → after p h .monitor .rating ≡ p .rating
+same-rating p h r = ap (λ (m : Monitor). m .rating) (unit-there p h r) ∙ unit-rating p h r

@@ -1,11 +1,12 @@
 -- Events, and what power-on takes: what a run is made of.
 use Prim.Native.Nat.{ℕ, _≤_}
 use mathlib.Core.Path.{_≡_}
-use mathlib.Core.Bool.{Bool, true, false}
+use mathlib.Core.Bool.{Bool, true, false, cond}
 use mathlib.Core.List.{List, [], _∷_}
 use Rattle.codec.specs.declared.frame.Frame.{Frame}
 use Rattle.codec.specs.Frames.{overLimits}
 use Rattle.monitor.specs.declared.time.Stamp.{Stamp}
+use Rattle.monitor.specs.Times.{earlier}
 use Rattle.maintenance.specs.declared.setting.Settings.{Settings}
 use Rattle.maintenance.specs.Settings.{accepted}
 
@@ -44,3 +45,9 @@ lastStamp p (e ∷ h) = stampOf e
 abbrev pub Run : PowerOn → List Event → Type 0
 Run p [] = IsAccepted p
 Run p (e ∷ h) = (beyond e ≡ false) × ((lastStamp p h .0 ≤ stampOf e .0) × Run p h)
+
+-- of any events at all, those that are accepted
+abbrev pub acceptedOf : PowerOn → List Event → List Event
+acceptedOf p [] = []
+acceptedOf p (e ∷ h) =
+    cond (beyond e) (acceptedOf p h) (cond (earlier (stampOf e) (lastStamp p (acceptedOf p h))) (acceptedOf p h) (e ∷ acceptedOf p h))

@@ -22,10 +22,11 @@ use Rattle.maintenance.specs.Settings.{accepted}
 use Rattle.maintenance.specs.Messages.{quiet as noReply}
 use Rattle.monitor.specs.Rules.{turn, started, woken, heard, framed, wasReset}
 use Rattle.monitor.specs.Replies.{OutsideReplies, SessionReplies}
-use Rattle.monitor.specs.Events.{Event, PowerOn, IsAccepted, stampOf, lastStamp, Run}
+use Rattle.monitor.specs.Events.{Event, PowerOn, IsAccepted, stampOf, lastStamp, Run, acceptedOf}
 use Rattle.monitor.specs.Bench.{step, answeredTo, poweredOn, uptimeAsked, benchAt, unitAfter, after}
 use Rattle.monitor.specs.History.{storedAfter, inSession, lastStart, replyTo}
 use Rattle.monitor.specs.Demand.{Reading, Demand, lookingBack}
+use Rattle.monitor.specs.Marked.{MarkedRuns}
 use Rattle.monitor.specs.Answers.{on, ticks, givenReply, toldOutcome, toldPowerOn, toldUptime, eventConditions, powerOnConditions, uptimeConditions}
 
 -- ---- answered or refused
@@ -75,6 +76,9 @@ abbrev pub OnIdentifier : ℕ → Reply → Type 0
 OnIdentifier identifier r = r .sent ≡ true → (r .frame .extended ≡ true) × (r .frame .identifier ≡ identifier)
 
 pub record Holds (p : PowerOn) (h : List Event) : Type 0 where
+  -- the events that are accepted make a run, and the others change nothing
+  pub run : Run p (acceptedOf p h)
+  pub same : after p h ≡ after p (acceptedOf p h)
   -- it is still the same unit
   pub serial : after p h .monitor .serial ≡ p .serial
   pub rating : after p h .monitor .rating ≡ p .rating
@@ -84,7 +88,7 @@ pub record Holds (p : PowerOn) (h : List Event) : Type 0 where
   pub fault : 1 ≤ after p h .monitor .stored .fault
   pub voltage : after p h .monitor .stored .voltage < p .rating
   -- "Every reply is on the transmit identifier stored before the event."
-  pub identifier : (e : Event) → OnIdentifier (after p h .monitor .stored .transmit) (step e (after p h .monitor) .reply)
+  pub identifier : (e : Event) → OnIdentifier (after p h .monitor .stored .transmit) (answeredTo e (after p h) .reply)
   -- the last start, silence counted, is not after the question, so that the uptime is a true difference
   pub start : (at : Stamp) → after p h .last .0 ≤ at .0 → woken at (after p h .monitor) .start .0 ≤ at .0
 
@@ -132,3 +136,4 @@ pub record Promise : Type 0 where
   pub runs : (p : PowerOn) → RunsAreAccepted p
   pub worked-out : (p : PowerOn) (h : List Event) → Run p h → WorkedOut p h
   pub demand-3 : (p : PowerOn) → Demand3 p
+  pub marked : MarkedRuns
