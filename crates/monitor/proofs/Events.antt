@@ -7,21 +7,22 @@ use Rattle.refusal.specs.declared.Refusal.the-variants.{OverLimits, EarlyStamp,
 use Rattle.refusal.specs.Conditions.{_when_, First, None, Answers}
 use Rattle.refusal.proofs.Conditions.{pick, answers, first-not-none}
 use Rattle.codec.specs.declared.frame.Answer.the-variants.{Accepted, Refused}
-use Rattle.monitor.specs.declared.time.Stamp.{Stamp}
-use Rattle.monitor.specs.declared.time.Ticks.{Ticks}
-use Rattle.monitor.specs.declared.unit.Turn.{Turn}
+use Rattle.rules.specs.declared.time.Stamp.{Stamp}
+use Rattle.rules.specs.declared.time.Ticks.{Ticks}
+use Rattle.rules.specs.declared.unit.Turn.{Turn}
 use Rattle.monitor.specs.declared.bench.Bench.{Bench}
 use Rattle.monitor.specs.declared.bench.Outcome.{Outcome}
 use Rattle.monitor.specs.declared.bench.UptimeReading.the-variants.{Read as Ticked, Refused as NotTicked}
-use Rattle.monitor.specs.Times.{earlier}
+use Rattle.rules.specs.Times.{earlier}
 use Rattle.maintenance.specs.Settings.{accepted}
 use Rattle.maintenance.specs.Messages.{quiet as noReply}
-use Rattle.monitor.specs.Rules.{woken, uptimeOf}
-use Rattle.monitor.specs.Events.{Event, PowerOn, beyond, stampOf}
-use Rattle.monitor.specs.Bench.{early, step, refusedBy, acceptedAt, answeredTo, poweredOn, uptimeAsked, benchAt, after}
-use Rattle.monitor.specs.Answers.{on, ticks, givenReply, toldOutcome, toldPowerOn, toldUptime, eventConditions, powerOnConditions, uptimeConditions}
+use Rattle.rules.specs.Rules.{woken, uptimeOf, step}
+use Rattle.rules.specs.Events.{Event, PowerOn, beyond, stampOf}
+use Rattle.monitor.specs.Bench.{early, refusedBy, acceptedAt, answeredTo, poweredOn, uptimeAsked, benchAt, after}
+use Rattle.rules.specs.Given.{on, ticks, givenReply}
+use Rattle.monitor.specs.Answers.{toldOutcome, toldPowerOn, toldUptime, eventConditions, powerOnConditions, uptimeConditions}
 use Rattle.monitor.specs.Promise.{Handles, PowersOn}
-use Rattle.monitor.proofs.Rules.{fresh}
+use Rattle.rules.proofs.Rules.{fresh}
 
 -- ---- events, over the two tests
 

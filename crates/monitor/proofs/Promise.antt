@@ -1,11 +1,8 @@
 -- The monitor keeps its promise. Assumes nothing.
 use Rattle.monitor.specs.Promise.{Promise}
 use Rattle.monitor.proofs.Events.{handles, powers-on, uptime-told}
-use Rattle.monitor.proofs.Rules.{unheard, starts}
-use Rattle.monitor.proofs.Replies.{outside-replies, session-replies, meets-woken}
 use Rattle.monitor.proofs.Runs.{holds}
 use Rattle.monitor.proofs.WorkedOut.{runs-accepted, worked-out, demand-3}
-use Rattle.monitor.proofs.Marked.{marked-runs}
 
 pub promise : Promise
 promise =
@@ -13,14 +10,8 @@ promise =
       events = handles;
       power-on = powers-on;
       uptime = uptime-told;
-      starts = starts;
-      silence = meets-woken;
-      unheard = unheard;
-      outside = outside-replies;
-      session = session-replies;
       history = holds;
       runs = runs-accepted;
       worked-out = worked-out;
       demand-3 = demand-3;
-      marked = marked-runs;
     }

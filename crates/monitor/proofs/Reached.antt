@@ -14,10 +14,11 @@ use Rattle.maintenance.specs.Messages.{quiet}
 use Rattle.monitor.specs.declared.bench.Bench.{Bench}
 use Rattle.monitor.specs.declared.bench.PoweredOn.{PoweredOn}
 use Rattle.monitor.specs.declared.bench.Outcome.{Outcome}
-use Rattle.monitor.specs.Events.{Event, PowerOn, stampOf, beyond, lastStamp, Run}
-use Rattle.monitor.specs.Bench.{early, step, answeredTo, acceptedAt, poweredOn, benchAt, unitAfter, after}
+use Rattle.rules.specs.Events.{Event, PowerOn, stampOf, beyond, lastStamp, Run}
+use Rattle.monitor.specs.Bench.{early, answeredTo, acceptedAt, poweredOn, benchAt, after}
+use Rattle.rules.specs.Rules.{step, unitAfter}
 use Rattle.monitor.specs.Reached.{Reached, Added, EventAnswered, PowerOnAnswered}
-use Rattle.monitor.proofs.History.{unit-stored, unit-reply}
+use Rattle.rules.proofs.History.{unit-stored, unit-reply}
 
 abbrev isAccepted : Answer → Bool
 isAccepted Accepted = true

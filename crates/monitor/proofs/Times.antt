@@ -6,8 +6,8 @@ use borrow.Author.Tests.{ltb-true}
 use mir.Syntax.{w32}
 use mir.Val.{Fits}
 use native.Mathlib.Omega.{arith}
-use Rattle.monitor.specs.declared.time.Stamp.{Stamp}
-use Rattle.monitor.specs.Times.{pastLimit}
+use Rattle.rules.specs.declared.time.Stamp.{Stamp}
+use Rattle.rules.specs.Times.{pastLimit}
 
 -- a limit that has been passed is a stamp
 pub limit-fits : (since : Stamp) (ms : ℕ) (at : Stamp) → pastLimit since ms at ≡ true → Fits w32 (at .0) → Fits w32 (since .0 + ms)

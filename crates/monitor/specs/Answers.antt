@@ -1,42 +1,25 @@
 -- Answers on paper: for each case of an answer, document 01's number and values.
-use Prim.Native.Nat.{ℕ}
-use mathlib.Core.Bool.{Bool, true, false, not}
+use mathlib.Core.Bool.{not}
 use mathlib.Core.List.{List, [], _∷_}
-use lib.ListN.{take}
 use Rattle.refusal.specs.Refusals.{numberOf}
 use Rattle.refusal.specs.Conditions.{Condition, _when_, Told, refusal, answer}
-use Rattle.codec.specs.declared.frame.Frame.{Frame}
 use Rattle.codec.specs.declared.frame.Answer.{Answer}
 use Rattle.codec.specs.declared.frame.Answer.the-variants.{Accepted, Refused}
-use Rattle.monitor.specs.declared.time.Stamp.{Stamp}
-use Rattle.maintenance.specs.declared.message.Reply.{Reply}
+use Rattle.rules.specs.declared.time.Stamp.{Stamp}
 use Rattle.monitor.specs.declared.bench.Bench.{Bench}
 use Rattle.monitor.specs.declared.bench.PoweredOn.{PoweredOn}
 use Rattle.monitor.specs.declared.bench.Outcome.{Outcome}
 use Rattle.monitor.specs.declared.bench.UptimeReading.{UptimeReading}
 use Rattle.monitor.specs.declared.bench.UptimeReading.the-variants.{Read as Ticked, Refused as NotTicked}
-use Rattle.monitor.specs.Times.{earlier}
+use Rattle.rules.specs.Times.{earlier}
 use Rattle.maintenance.specs.Settings.{accepted}
-use Rattle.monitor.specs.Events.{Event, PowerOn, beyond}
+use Rattle.rules.specs.Events.{Event, PowerOn, beyond}
+use Rattle.rules.specs.Given.{Given, on, ticks, givenReply}
 use Rattle.monitor.specs.Bench.{early}
-
--- the monitor is on; no reply; the identifier and the bytes of a reply; the ticks of the uptime
-pub data Given : Type 0 where
-  on : Given
-  quiet : Given
-  reply : ℕ → List ℕ → Given
-  ticks : ℕ → Given
 
 abbrev pub toldBy : Answer → Given → Told Given
 toldBy Accepted given = answer given
 toldBy (Refused why) given = refusal (numberOf why)
-
-abbrev pub givenFrame : Bool → Frame → Given
-givenFrame false f = quiet
-givenFrame true f = reply (f .identifier) (take (f .length) (f .bytes))
-
-abbrev pub givenReply : Reply → Given
-givenReply r = givenFrame (r .sent) (r .frame)
 
 abbrev pub toldOutcome : Outcome → Told Given
 toldOutcome o = toldBy (o .answer) (givenReply (o .reply))

@@ -6,29 +6,24 @@ use lib.ListN.{replicate}
 use Rattle.refusal.specs.declared.Refusal.{Refusal}
 use Rattle.refusal.specs.declared.Refusal.the-variants.{OverLimits, EarlyStamp, NotLegal}
 use Rattle.codec.specs.declared.frame.Answer.the-variants.{Accepted, Refused}
-use Rattle.monitor.specs.declared.time.Stamp.{Stamp}
+use Rattle.rules.specs.declared.time.Stamp.{Stamp}
 use Rattle.maintenance.specs.declared.setting.Settings.{Settings}
-use Rattle.monitor.specs.declared.unit.Monitor.{Monitor}
-use Rattle.monitor.specs.declared.unit.Turn.{Turn}
+use Rattle.rules.specs.declared.unit.Monitor.{Monitor}
+use Rattle.rules.specs.declared.unit.Turn.{Turn}
 use Rattle.monitor.specs.declared.bench.Bench.{Bench}
 use Rattle.monitor.specs.declared.bench.PoweredOn.{PoweredOn}
 use Rattle.monitor.specs.declared.bench.Outcome.{Outcome}
 use Rattle.monitor.specs.declared.bench.UptimeReading.{UptimeReading}
 use Rattle.monitor.specs.declared.bench.UptimeReading.the-variants.{Read as Ticked, Refused as NotTicked}
-use Rattle.monitor.specs.Times.{earlier}
+use Rattle.rules.specs.Times.{earlier}
 use Rattle.maintenance.specs.Settings.{accepted}
 use Rattle.maintenance.specs.Messages.{quiet}
-use Rattle.monitor.specs.Rules.{startedWith, framed, wasReset, uptimeOf}
-use Rattle.monitor.specs.Events.{Event, frameEvent, resetEvent, PowerOn, stampOf, beyond}
+use Rattle.rules.specs.Rules.{startedWith, uptimeOf, step}
+use Rattle.rules.specs.Events.{Event, PowerOn, stampOf, beyond}
 
 -- 7: "a stamp earlier than the last accepted one (or power-on)"
 abbrev pub early : Event → Bench → Bool
 early e b = earlier (stampOf e) (b .last)
-
--- what the unit does at an event
-abbrev pub step : Event → Monitor → Turn
-step (frameEvent at storing f) m = framed at storing f m
-step (resetEvent at) m = wasReset at m
 
 -- "state and lent memory are unchanged"
 abbrev pub refusedBy : Refusal → Bench → Outcome
@@ -72,11 +67,6 @@ abbrev pub uptimeAsked : Stamp → Bench → UptimeReading
 uptimeAsked at b = cond (earlier at (b .last)) (NotTicked EarlyStamp) (Ticked (uptimeOf at (b .monitor)))
 
 -- ---- histories
-
--- the unit after power-on and a history of events that it is given as they are, the newest first
-abbrev pub unitAfter : PowerOn → List Event → Monitor
-unitAfter p [] = startedWith (p .serial) (p .rating) (p .settings) (p .at)
-unitAfter p (e ∷ h) = step e (unitAfter p h) .monitor
 
 -- the bench after power-on and a history of events, the newest first. A refused event leaves it as it was
 abbrev pub after : PowerOn → List Event → Bench

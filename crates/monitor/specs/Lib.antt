@@ -1,12 +1,5 @@
--- What the monitor speaks of, from document 01's section "The bench monitor". What it promises is in `Promise`.
-pub mod Times
-pub mod Rules
-pub mod Events
+-- The monitor on the bench: refusals, and what its functions tell of histories. What it promises is in `Promise`.
 pub mod Bench
-pub mod History
-pub mod Demand
 pub mod Reached
-pub mod Replies
 pub mod Answers
-pub mod Marked
 pub mod Promise

@@ -1,14 +1,10 @@
 // The monitor on the bench: with the last accepted stamp it gives the refusals. A refused call returns the bench it was given.
 ghost use mathlib.Core.Path.{_≡_};
-ghost use Rattle.monitor.specs.Events.{frameEvent, resetEvent};
+ghost use Rattle.rules.specs.Events.{frameEvent, resetEvent};
 ghost use Rattle.monitor.specs.Bench.{noBench, refusedBy, acceptedAt, uptimeAsked};
 ghost use Rattle.monitor.specs.Reached.{EventAnswered, PowerOnAnswered, powerOnWith};
-use crate::time::Stamp;
-use crate::time::Ticks;
 use crate::time::is_earlier;
 use crate::unit;
-use crate::unit::Monitor;
-use crate::unit::Turn;
 use crate::unit::start_with;
 use codec::frame::Answer;
 use codec::frame::Frame;
@@ -18,6 +14,10 @@ use maintenance::message::no_reply;
 use maintenance::setting::Settings;
 use maintenance::setting::is_accepted;
 use refusal::Refusal;
+use rules::time::Stamp;
+use rules::time::Ticks;
+use rules::unit::Monitor;
+use rules::unit::Turn;
 
 pub struct Bench {
     monitor: Monitor,

@@ -1,12 +1,8 @@
 // Two units of time, kept apart: milliseconds of the bench and ticks of the uptime.
 ghost use mathlib.Core.Path.{_≡_};
-ghost use Rattle.monitor.specs.Times.{pastLimit, earlier, ticksBetween};
-
-// A moment on the bench's clock, in milliseconds.
-pub struct Stamp(pub u32);
-
-// A span of the uptime, in ticks of ten milliseconds.
-pub struct Ticks(pub u32);
+ghost use Rattle.rules.specs.Times.{pastLimit, earlier, ticksBetween};
+use rules::time::Stamp;
+use rules::time::Ticks;
 
 pub fn is_earlier(at: Stamp, other: Stamp) -> bool
     ensures { λ r. ⌜ r ≡ earlier at other ⌝ }

@@ -1,6 +1,6 @@
 // The monitor itself, rule by rule. It is given events that are within the limits and in order, and refuses nothing.
 ghost use mathlib.Core.Path.{_≡_};
-ghost use Rattle.monitor.specs.Rules.{
+ghost use Rattle.rules.specs.Rules.{
   turn,
   inPhase,
   startedWith,
@@ -24,8 +24,6 @@ ghost use Rattle.monitor.specs.Rules.{
   wasReset,
   uptimeOf,
 };
-use crate::time::Stamp;
-use crate::time::Ticks;
 use crate::time::past_limit;
 use crate::time::ticks_between;
 use codec::frame::Frame;
@@ -44,37 +42,13 @@ use maintenance::setting::Settings;
 use maintenance::setting::is_legal;
 use maintenance::setting::value_of;
 use maintenance::setting::with_value;
-
-// A challenge that waits for its answer, since its stamp.
-pub enum Pending {
-    Nothing,
-    Since(Stamp),
-}
-
-// A session: the stamp of the last heard message, and the draft.
-pub struct Session {
-    pub heard: Stamp,
-    pub draft: Settings,
-}
-
-pub enum Phase {
-    Outside(Pending),
-    InSession(Session),
-}
-
-pub struct Monitor {
-    serial: [u8; 16],
-    rating: u16,
-    stored: Settings,
-    start: Stamp,
-    phase: Phase,
-}
-
-// What an event leaves: the monitor, and its reply.
-pub struct Turn {
-    pub monitor: Monitor,
-    pub reply: Reply,
-}
+use rules::time::Stamp;
+use rules::time::Ticks;
+use rules::unit::Monitor;
+use rules::unit::Pending;
+use rules::unit::Phase;
+use rules::unit::Session;
+use rules::unit::Turn;
 
 // ---- what is stored
 

@@ -7,10 +7,10 @@ use Rattle.words.specs.declared.Order.the-variants.{Big}
 use Rattle.words.specs.Words.{wordOf}
 use Rattle.codec.specs.declared.frame.Frame.{Frame}
 use Rattle.maintenance.specs.declared.setting.Settings.{Settings}
-use Rattle.monitor.specs.declared.time.Stamp.{Stamp}
+use Rattle.rules.specs.declared.time.Stamp.{Stamp}
 use Rattle.monitor.specs.declared.bench.Bench.{Bench}
 use Rattle.monitor.specs.declared.bench.Outcome.{Outcome}
-use Rattle.monitor.specs.Events.{frameEvent, resetEvent}
+use Rattle.rules.specs.Events.{frameEvent, resetEvent}
 use Rattle.monitor.specs.Bench.{answeredTo, poweredOn}
 use Rattle.monitor_bench.specs.declared.Run.{Run}
 

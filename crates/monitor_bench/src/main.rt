@@ -9,7 +9,7 @@ use monitor::bench::Outcome;
 use monitor::bench::frame_event;
 use monitor::bench::power_on;
 use monitor::bench::reset_event;
-use monitor::time::Stamp;
+use rules::time::Stamp;
 use words::Order;
 use words::word::word32;
 

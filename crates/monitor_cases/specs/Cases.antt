@@ -6,9 +6,9 @@ use lib.Dec.{ltb, eqb}
 use lib.ListN.{getD}
 use Rattle.codec.specs.declared.frame.Frame.{Frame}
 use Rattle.codec.specs.Table.{part, numberAt}
-use Rattle.monitor.specs.declared.time.Stamp.{Stamp}
+use Rattle.rules.specs.declared.time.Stamp.{Stamp}
 use Rattle.maintenance.specs.declared.setting.Settings.{Settings}
-use Rattle.monitor.specs.Events.{Event, frameEvent, resetEvent}
+use Rattle.rules.specs.Events.{Event, frameEvent, resetEvent}
 
 -- byte 4: the kind, 0 to 5; byte 5 of a frame: 0 standard, 1 extended
 abbrev pub knownCase : List ℕ → Bool

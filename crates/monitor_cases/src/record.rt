@@ -11,7 +11,7 @@ use monitor::bench::PoweredOn;
 use monitor::bench::frame_event;
 use monitor::bench::power_on;
 use monitor::bench::reset_event;
-use monitor::time::Stamp;
+use rules::time::Stamp;
 use words::Order;
 use words::word::word16;
 use words::word::word32;

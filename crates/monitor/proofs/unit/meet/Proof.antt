@@ -1,6 +1,6 @@
 -- `monitor::unit::meet` meets its contract: by the phase. Assumes nothing.
 use mathlib.Core.Path.{sym, ap, _∙_}
-use Rattle.monitor.specs.Rules.{metBy}
+use Rattle.rules.specs.Rules.{metBy}
 use borrow.Author.Needs.{needs}
 use Rattle.monitor.proofs.unit.meet.Statement.{statement}
 use Rattle.monitor.proofs.unit.meet.Tie as tie

@@ -16,15 +16,15 @@ use Rattle.maintenance.specs.declared.setting.Named.the-variants.{Unknown, Know
 use Rattle.maintenance.specs.declared.setting.Settings.{Settings}
 use Rattle.maintenance.specs.Settings.{code, settingOf, legal, valueOf, withValue}
 use Rattle.maintenance.specs.Messages.{byte, isUnlock, isCommit, isAnswer, asksSerial, answerTo, serialReport, quiet, says}
-use Rattle.monitor.specs.declared.time.Stamp.{Stamp}
-use Rattle.monitor.specs.declared.unit.Pending.{Pending}
-use Rattle.monitor.specs.declared.unit.Pending.the-variants.{Nothing, Since}
-use Rattle.monitor.specs.declared.unit.Session.{Session}
-use Rattle.monitor.specs.declared.unit.Phase.{Phase}
-use Rattle.monitor.specs.declared.unit.Phase.the-variants.{Outside, InSession}
-use Rattle.monitor.specs.declared.unit.Monitor.{Monitor}
-use Rattle.monitor.specs.declared.unit.Turn.{Turn}
-use Rattle.monitor.specs.Rules.{turn, inPhase, started, framed}
+use Rattle.rules.specs.declared.time.Stamp.{Stamp}
+use Rattle.rules.specs.declared.unit.Pending.{Pending}
+use Rattle.rules.specs.declared.unit.Pending.the-variants.{Nothing, Since}
+use Rattle.rules.specs.declared.unit.Session.{Session}
+use Rattle.rules.specs.declared.unit.Phase.{Phase}
+use Rattle.rules.specs.declared.unit.Phase.the-variants.{Outside, InSession}
+use Rattle.rules.specs.declared.unit.Monitor.{Monitor}
+use Rattle.rules.specs.declared.unit.Turn.{Turn}
+use Rattle.rules.specs.Rules.{turn, inPhase, started, framed}
 
 -- the monitor in a phase, with these bytes sent on the stored transmit identifier
 abbrev pub moves : Monitor → Phase → List ℕ → Turn

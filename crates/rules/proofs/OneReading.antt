@@ -11,11 +11,11 @@ use Rattle.maintenance.specs.declared.setting.Setting.{Setting}
 use Rattle.maintenance.specs.declared.setting.Settings.{Settings}
 use Rattle.maintenance.specs.Settings.{valueOf}
 use Rattle.maintenance.specs.Messages.{heardOn}
-use Rattle.monitor.specs.declared.time.Stamp.{Stamp}
-use Rattle.monitor.specs.Events.{Event, frameEvent, resetEvent, PowerOn, lastStamp, Run}
-use Rattle.monitor.specs.History.{unlocks, answers, commits}
-use Rattle.monitor.specs.Demand.{Reading, Heard, heardIn, No, Close, lastAccepted, Unlocked, Opened, heardSince, Stores, Changes, Silent, Start, at-power-on, at-reset, at-commit, after-silence, LastStart, Demand}
-use Rattle.monitor.proofs.Demand.{same-settings, by-store}
+use Rattle.rules.specs.declared.time.Stamp.{Stamp}
+use Rattle.rules.specs.Events.{Event, frameEvent, resetEvent, PowerOn, lastStamp, Run}
+use Rattle.rules.specs.History.{unlocks, answers, commits}
+use Rattle.rules.specs.Demand.{Reading, Heard, heardIn, No, Close, lastAccepted, Unlocked, Opened, heardSince, Stores, Changes, Silent, Start, at-power-on, at-reset, at-commit, after-silence, LastStart, Demand}
+use Rattle.rules.proofs.Demand.{same-settings, by-store}
 
 -- ---- places in a run
 

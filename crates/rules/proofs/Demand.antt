@@ -12,13 +12,13 @@ use Rattle.maintenance.specs.declared.setting.Settings.{Settings}
 use Rattle.maintenance.specs.Settings.{valueOf}
 use Rattle.maintenance.specs.Messages.{message, heardOn}
 use Rattle.maintenance.proofs.Messages.{and-left, and-right}
-use Rattle.monitor.specs.declared.time.Stamp.{Stamp}
-use Rattle.monitor.specs.Events.{Event, frameEvent, resetEvent, PowerOn, stampOf, lastStamp}
-use Rattle.monitor.specs.History.{commits, taking, storedAfter, inSession, lastWrite}
-use Rattle.monitor.specs.Demand.{Reading, lookingBack, Opened, Stores, Changes, Demand}
-use Rattle.monitor.proofs.Looking.{stored-frame}
-use Rattle.monitor.proofs.Starts.{last-start}
-use Rattle.monitor.proofs.Sessions.{commits-only, opened-session, opened-writes, session-opened}
+use Rattle.rules.specs.declared.time.Stamp.{Stamp}
+use Rattle.rules.specs.Events.{Event, frameEvent, resetEvent, PowerOn, stampOf, lastStamp}
+use Rattle.rules.specs.History.{commits, taking, storedAfter, inSession, lastWrite}
+use Rattle.rules.specs.Demand.{Reading, lookingBack, Opened, Stores, Changes, Demand}
+use Rattle.rules.proofs.Looking.{stored-frame}
+use Rattle.rules.proofs.Starts.{last-start}
+use Rattle.rules.proofs.Sessions.{commits-only, opened-session, opened-writes, session-opened}
 
 -- ---- settings, one by one
 

@@ -2,8 +2,8 @@
 use Prim.Native.Nat.{ℕ, _+_, _-_, _/_}
 use mathlib.Core.Bool.{Bool}
 use lib.Dec.{ltb}
-use Rattle.monitor.specs.declared.time.Stamp.{Stamp}
-use Rattle.monitor.specs.declared.time.Ticks.{Ticks}
+use Rattle.rules.specs.declared.time.Stamp.{Stamp}
+use Rattle.rules.specs.declared.time.Ticks.{Ticks}
 
 abbrev pub earlier : Stamp → Stamp → Bool
 earlier at other = ltb (at .0) (other .0)

@@ -5,10 +5,10 @@ use mathlib.Core.Bool.{Bool, true, false}
 use mathlib.Core.List.{List, [], _∷_}
 use Rattle.maintenance.specs.declared.setting.Settings.{Settings}
 use Rattle.maintenance.specs.declared.message.Reply.{Reply}
-use Rattle.monitor.specs.Events.{Event, frameEvent, PowerOn}
-use Rattle.monitor.specs.Bench.{answeredTo, after}
-use Rattle.monitor.specs.History.{storedAfter, replyTo}
-use Rattle.monitor.specs.Answers.{Given, quiet, reply, givenReply}
+use Rattle.rules.specs.Events.{Event, frameEvent, PowerOn}
+use Rattle.rules.specs.Rules.{step, unitAfter}
+use Rattle.rules.specs.History.{storedAfter, replyTo}
+use Rattle.rules.specs.Given.{Given, quiet, reply, givenReply}
 
 -- "power-on at 0, serial 00 01 .. 0F, rating 1000, defaults (0A100101, 0A100100, 500, 0, 500, 100)"
 abbrev pub defaultsWith : ℕ → Settings
@@ -63,9 +63,9 @@ repliesBy says (e ∷ h) = givenReply (says h e) ∷ repliesBy says h
 
 -- both readings store this fault level and give these replies
 pub record Both (h : List Event) (level : ℕ) (replies : List Given) : Type 0 where
-  pub stored-run : after markedUnit h .monitor .stored ≡ defaultsWith level
+  pub stored-run : unitAfter markedUnit h .stored ≡ defaultsWith level
   pub stored-back : storedAfter markedUnit h ≡ defaultsWith level
-  pub replies-run : repliesBy (λ h e. answeredTo e (after markedUnit h) .reply) h ≡ replies
+  pub replies-run : repliesBy (λ h e. step e (unitAfter markedUnit h) .reply) h ≡ replies
   pub replies-back : repliesBy (λ h e. replyTo markedUnit h e) h ≡ replies
 
 pub record MarkedRuns : Type 0 where

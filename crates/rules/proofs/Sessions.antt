@@ -13,11 +13,11 @@ use Rattle.maintenance.specs.declared.message.Message.{Message}
 use Rattle.maintenance.specs.declared.message.Message.the-variants.{Other, Unlock, Commit, Answer, SerialRequest, Read, Write}
 use Rattle.maintenance.specs.Messages.{message, heardOn, isRight}
 use Rattle.maintenance.proofs.Messages.{and-left, and-right}
-use Rattle.monitor.specs.declared.time.Stamp.{Stamp}
-use Rattle.monitor.specs.Events.{Event, frameEvent, resetEvent, PowerOn}
-use Rattle.monitor.specs.History.{near, timelyUnlock, timelyAnswer, unlocks, answers, commits, writes, leavesOpen, leavesPending, newest, storedAfter, inSession, pendingSince, lastStart, lastWrite}
-use Rattle.monitor.specs.Demand.{lookingBack, Heard, heardIn, No, hasReset, Close, lastAccepted, Unlocked, Opened, heardSince}
-use Rattle.monitor.proofs.Looking.{session-unheard, pending-unheard, write-unheard, session-heard, pending-heard, write-heard, unheard-since, heard-since}
+use Rattle.rules.specs.declared.time.Stamp.{Stamp}
+use Rattle.rules.specs.Events.{Event, frameEvent, resetEvent, PowerOn}
+use Rattle.rules.specs.History.{near, timelyUnlock, timelyAnswer, unlocks, answers, commits, writes, leavesOpen, leavesPending, newest, storedAfter, inSession, pendingSince, lastStart, lastWrite}
+use Rattle.rules.specs.Demand.{lookingBack, Heard, heardIn, No, hasReset, Close, lastAccepted, Unlocked, Opened, heardSince}
+use Rattle.rules.proofs.Looking.{session-unheard, pending-unheard, write-unheard, session-heard, pending-heard, write-heard, unheard-since, heard-since}
 
 -- ---- what a message is
 

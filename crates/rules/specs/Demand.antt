@@ -13,10 +13,10 @@ use Rattle.maintenance.specs.declared.message.Message.{Message}
 use Rattle.maintenance.specs.declared.message.Message.the-variants.{Unlock, Commit, Answer}
 use Rattle.maintenance.specs.Settings.{valueOf}
 use Rattle.maintenance.specs.Messages.{message, heardOn, isRight}
-use Rattle.monitor.specs.declared.time.Stamp.{Stamp}
-use Rattle.monitor.specs.Times.{later}
-use Rattle.monitor.specs.Events.{Event, frameEvent, resetEvent, PowerOn, lastStamp, Run}
-use Rattle.monitor.specs.History.{unlocks, answers, commits, writes, newest, storedAfter, inSession, lastStart}
+use Rattle.rules.specs.declared.time.Stamp.{Stamp}
+use Rattle.rules.specs.Times.{later}
+use Rattle.rules.specs.Events.{Event, frameEvent, resetEvent, PowerOn, lastStamp, Run}
+use Rattle.rules.specs.History.{unlocks, answers, commits, writes, newest, storedAfter, inSession, lastStart}
 
 -- what is said of each history: the six stored after it; and for an event at a stamp, whether a session is open for it, and the last start before it
 pub record Reading : Type 0 where

@@ -1,8 +1,8 @@
 -- The marked runs, by computation. Assumes nothing.
 use mathlib.Core.Path.{refl}
 use Rattle.maintenance.specs.Messages.{message}
-use Rattle.monitor.specs.History.{storedAfter}
-use Rattle.monitor.specs.Marked.{MarkedRuns}
+use Rattle.rules.specs.History.{storedAfter}
+use Rattle.rules.specs.Marked.{MarkedRuns}
 
 pub marked-runs : MarkedRuns
 unfolding storedAfter message

@@ -2,22 +2,23 @@
 -- the reply. Each is defined for every monitor there is.
 use Prim.Native.Nat.{ℕ}
 use mathlib.Core.Bool.{Bool, true, false, not, cond, _&&_}
-use mathlib.Core.List.{List}
+use mathlib.Core.List.{List, [], _∷_}
 use Rattle.codec.specs.declared.frame.Frame.{Frame}
-use Rattle.monitor.specs.declared.time.Stamp.{Stamp}
-use Rattle.monitor.specs.declared.time.Ticks.{Ticks}
+use Rattle.rules.specs.declared.time.Stamp.{Stamp}
+use Rattle.rules.specs.declared.time.Ticks.{Ticks}
 use Rattle.maintenance.specs.declared.setting.Setting.{Setting}
 use Rattle.maintenance.specs.declared.setting.Settings.{Settings}
 use Rattle.maintenance.specs.declared.message.Message.{Message}
 use Rattle.maintenance.specs.declared.message.Message.the-variants.{Other, Unlock, Commit, Answer, SerialRequest, Read, Write}
 use Rattle.maintenance.specs.declared.message.Reply.{Reply}
-use Rattle.monitor.specs.declared.unit.Pending.{Pending}
-use Rattle.monitor.specs.declared.unit.Pending.the-variants.{Nothing, Since}
-use Rattle.monitor.specs.declared.unit.Phase.{Phase}
-use Rattle.monitor.specs.declared.unit.Phase.the-variants.{Outside, InSession}
-use Rattle.monitor.specs.declared.unit.Monitor.{Monitor}
-use Rattle.monitor.specs.declared.unit.Turn.{Turn}
-use Rattle.monitor.specs.Times.{later, pastLimit, ticksBetween}
+use Rattle.rules.specs.declared.unit.Pending.{Pending}
+use Rattle.rules.specs.declared.unit.Pending.the-variants.{Nothing, Since}
+use Rattle.rules.specs.declared.unit.Phase.{Phase}
+use Rattle.rules.specs.declared.unit.Phase.the-variants.{Outside, InSession}
+use Rattle.rules.specs.declared.unit.Monitor.{Monitor}
+use Rattle.rules.specs.declared.unit.Turn.{Turn}
+use Rattle.rules.specs.Times.{later, pastLimit, ticksBetween}
+use Rattle.rules.specs.Events.{Event, frameEvent, resetEvent, PowerOn}
 use Rattle.maintenance.specs.Settings.{legal, valueOf, withValue}
 use Rattle.maintenance.specs.Messages.{message, heardOn, isRight, quiet, ack, nak, challenged, shown, serialReport}
 
@@ -159,3 +160,15 @@ wasReset at m = ignored (started at (m .stored) m)
 -- "ticks of ten milliseconds since the last start, rounded down, silence counted"
 abbrev pub uptimeOf : Stamp → Monitor → Ticks
 uptimeOf at m = ticksBetween (woken at m .start) at
+
+-- ---- histories
+
+-- an event, whichever it is
+abbrev pub step : Event → Monitor → Turn
+step (frameEvent at storing f) m = framed at storing f m
+step (resetEvent at) m = wasReset at m
+
+-- the unit after power-on and a history of events that it is given as they are, the newest first
+abbrev pub unitAfter : PowerOn → List Event → Monitor
+unitAfter p [] = startedWith (p .serial) (p .rating) (p .settings) (p .at)
+unitAfter p (e ∷ h) = step e (unitAfter p h) .monitor

@@ -6,10 +6,10 @@ use mathlib.Core.Option.{none}
 use Rattle.codec.specs.declared.frame.Frame.{Frame}
 use Rattle.maintenance.specs.declared.setting.Setting.{Setting}
 use Rattle.maintenance.specs.Messages.{message, heardOn}
-use Rattle.monitor.specs.declared.time.Stamp.{Stamp}
-use Rattle.monitor.specs.Events.{Event, frameEvent, PowerOn}
-use Rattle.monitor.specs.History.{near, timelyUnlock, timelyAnswer, commits, writes, leavesOpen, leavesPending, leavesStart, newest, taking, storedAfter, inSession, pendingSince, lastStart, lastWrite}
-use Rattle.monitor.specs.Demand.{lookingBack, heardIn}
+use Rattle.rules.specs.declared.time.Stamp.{Stamp}
+use Rattle.rules.specs.Events.{Event, frameEvent, PowerOn}
+use Rattle.rules.specs.History.{near, timelyUnlock, timelyAnswer, commits, writes, leavesOpen, leavesPending, leavesStart, newest, taking, storedAfter, inSession, pendingSince, lastStart, lastWrite}
+use Rattle.rules.specs.Demand.{lookingBack, heardIn}
 
 module _ (p : PowerOn) (at : Stamp) (storing : Bool) (f : Frame) (h : List Event) where
   abbrev it : Event

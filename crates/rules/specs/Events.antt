@@ -5,8 +5,8 @@ use mathlib.Core.Bool.{Bool, true, false, cond}
 use mathlib.Core.List.{List, [], _∷_}
 use Rattle.codec.specs.declared.frame.Frame.{Frame}
 use Rattle.codec.specs.Frames.{overLimits}
-use Rattle.monitor.specs.declared.time.Stamp.{Stamp}
-use Rattle.monitor.specs.Times.{earlier}
+use Rattle.rules.specs.declared.time.Stamp.{Stamp}
+use Rattle.rules.specs.Times.{earlier}
 use Rattle.maintenance.specs.declared.setting.Settings.{Settings}
 use Rattle.maintenance.specs.Settings.{accepted}
 

@@ -8,16 +8,16 @@ use borrow.Author.Tests.{lt-ltb, ltb-true}
 use native.Mathlib.Omega.{arith}
 use Rattle.words.proofs.Tests.{decided}
 use Rattle.codec.specs.declared.frame.Frame.{Frame}
-use Rattle.monitor.specs.declared.time.Stamp.{Stamp}
+use Rattle.rules.specs.declared.time.Stamp.{Stamp}
 use Rattle.maintenance.specs.declared.setting.Settings.{Settings}
-use Rattle.monitor.specs.declared.unit.Phase.{Phase}
-use Rattle.monitor.specs.declared.unit.Phase.the-variants.{Outside, InSession}
-use Rattle.monitor.specs.declared.unit.Monitor.{Monitor}
-use Rattle.monitor.specs.declared.unit.Turn.{Turn}
-use Rattle.monitor.specs.Times.{later, pastLimit}
+use Rattle.rules.specs.declared.unit.Phase.{Phase}
+use Rattle.rules.specs.declared.unit.Phase.the-variants.{Outside, InSession}
+use Rattle.rules.specs.declared.unit.Monitor.{Monitor}
+use Rattle.rules.specs.declared.unit.Turn.{Turn}
+use Rattle.rules.specs.Times.{later, pastLimit}
 use Rattle.maintenance.specs.Messages.{quiet}
-use Rattle.monitor.specs.Rules.{turn, startedWith, started, wokenBy, woken, heard, met, wasReset}
-use Rattle.monitor.specs.Promise.{UnheardChangesNothing, Fresh, Starts}
+use Rattle.rules.specs.Rules.{turn, startedWith, started, wokenBy, woken, heard, met, wasReset}
+use Rattle.rules.specs.Promise.{UnheardChangesNothing, Fresh, Starts}
 
 -- a reset finds the same unit, silence or not
 reset-woken-by : (phase : Phase) (at : Stamp) (m : Monitor) → wasReset at m ≡ wasReset at (wokenBy phase at m)

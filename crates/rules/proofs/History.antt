@@ -17,20 +17,19 @@ use Rattle.maintenance.specs.declared.message.Message.{Message}
 use Rattle.maintenance.specs.declared.message.Message.the-variants.{Other, Unlock, Commit, Answer, SerialRequest, Read, Write}
 use Rattle.maintenance.specs.Settings.{legal, valueOf, withValue}
 use Rattle.maintenance.specs.Messages.{message, heardOn, isRight, ack, shown}
-use Rattle.monitor.specs.declared.time.Stamp.{Stamp}
-use Rattle.monitor.specs.declared.unit.Pending.{Pending}
-use Rattle.monitor.specs.declared.unit.Pending.the-variants.{Nothing, Since}
-use Rattle.monitor.specs.declared.unit.Phase.{Phase}
-use Rattle.monitor.specs.declared.unit.Phase.the-variants.{Outside, InSession}
-use Rattle.monitor.specs.declared.unit.Monitor.{Monitor}
-use Rattle.monitor.specs.declared.unit.Turn.{Turn}
-use Rattle.monitor.specs.Times.{later}
-use Rattle.monitor.specs.Rules.{inPhase, sessionAt, goesOn, answered, refused, outside, inside, met, frameMet, woken, wasReset}
-use Rattle.monitor.specs.Events.{Event, frameEvent, resetEvent, PowerOn, lastStamp, Run}
-use Rattle.monitor.specs.Bench.{step, unitAfter}
-use Rattle.monitor.specs.Promise.{isOpen}
-use Rattle.monitor.proofs.Rules.{woken-later, reset-woken}
-use Rattle.monitor.specs.History.{near, timelyUnlock, timelyAnswer, commits, writes, leavesOpen, leavesPending, leavesStart, newest, taking, storedAfter, inSession, pendingSince, lastStart, lastWrite, readable, replyToAnswer, replyOutside, replyInside, replyTo}
+use Rattle.rules.specs.declared.time.Stamp.{Stamp}
+use Rattle.rules.specs.declared.unit.Pending.{Pending}
+use Rattle.rules.specs.declared.unit.Pending.the-variants.{Nothing, Since}
+use Rattle.rules.specs.declared.unit.Phase.{Phase}
+use Rattle.rules.specs.declared.unit.Phase.the-variants.{Outside, InSession}
+use Rattle.rules.specs.declared.unit.Monitor.{Monitor}
+use Rattle.rules.specs.declared.unit.Turn.{Turn}
+use Rattle.rules.specs.Times.{later}
+use Rattle.rules.specs.Rules.{inPhase, sessionAt, goesOn, answered, refused, outside, inside, met, frameMet, woken, wasReset, step, unitAfter}
+use Rattle.rules.specs.Events.{Event, frameEvent, resetEvent, PowerOn, lastStamp, Run}
+use Rattle.rules.specs.Promise.{isOpen}
+use Rattle.rules.proofs.Rules.{woken-later, reset-woken}
+use Rattle.rules.specs.History.{near, timelyUnlock, timelyAnswer, commits, writes, leavesOpen, leavesPending, leavesStart, newest, taking, storedAfter, inSession, pendingSince, lastStart, lastWrite, readable, replyToAnswer, replyOutside, replyInside, replyTo}
 
 -- ---- limits of time, as the rules have them
 

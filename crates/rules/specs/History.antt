@@ -15,9 +15,9 @@ use Rattle.maintenance.specs.declared.message.Message.the-variants.{Other, Unlo
 use Rattle.maintenance.specs.declared.message.Reply.{Reply}
 use Rattle.maintenance.specs.Settings.{code, legal, valueOf}
 use Rattle.maintenance.specs.Messages.{message, heardOn, isRight, quiet, ack, nak, challenged, shown, serialReport}
-use Rattle.monitor.specs.declared.time.Stamp.{Stamp}
-use Rattle.monitor.specs.Times.{later}
-use Rattle.monitor.specs.Events.{Event, frameEvent, resetEvent, PowerOn}
+use Rattle.rules.specs.declared.time.Stamp.{Stamp}
+use Rattle.rules.specs.Times.{later}
+use Rattle.rules.specs.Events.{Event, frameEvent, resetEvent, PowerOn}
 
 -- ---- the limits of time
 

@@ -15,17 +15,17 @@ use Rattle.maintenance.specs.declared.message.Message.the-variants.{Other, Unlo
 use Rattle.maintenance.specs.Settings.{settingOf}
 use Rattle.maintenance.specs.Messages.{byte, isUnlock, isCommit, isAnswer, asksSerial, asRead, asWrite, message, isRight}
 use Rattle.maintenance.proofs.Messages.{and-false, says, right-means}
-use Rattle.monitor.specs.declared.time.Stamp.{Stamp}
-use Rattle.monitor.specs.declared.unit.Pending.{Pending}
-use Rattle.monitor.specs.declared.unit.Session.{Session}
-use Rattle.monitor.specs.declared.unit.Phase.{Phase}
-use Rattle.monitor.specs.declared.unit.Phase.the-variants.{Outside, InSession}
-use Rattle.monitor.specs.declared.unit.Monitor.{Monitor}
-use Rattle.monitor.specs.Times.{pastLimit}
-use Rattle.monitor.specs.Rules.{wokenBy, woken, ignored, answered, outside, refused, committed, inside, heard, metBy, met, frameMet, framed}
-use Rattle.monitor.specs.Promise.{MeetsAsWoken}
-use Rattle.monitor.proofs.Rules.{woken-later}
-use Rattle.monitor.specs.Replies.{known, coded, Right, OutsideReplies, SessionReplies}
+use Rattle.rules.specs.declared.time.Stamp.{Stamp}
+use Rattle.rules.specs.declared.unit.Pending.{Pending}
+use Rattle.rules.specs.declared.unit.Session.{Session}
+use Rattle.rules.specs.declared.unit.Phase.{Phase}
+use Rattle.rules.specs.declared.unit.Phase.the-variants.{Outside, InSession}
+use Rattle.rules.specs.declared.unit.Monitor.{Monitor}
+use Rattle.rules.specs.Times.{pastLimit}
+use Rattle.rules.specs.Rules.{wokenBy, woken, ignored, answered, outside, refused, committed, inside, heard, metBy, met, frameMet, framed}
+use Rattle.rules.specs.Promise.{MeetsAsWoken}
+use Rattle.rules.proofs.Rules.{woken-later}
+use Rattle.rules.specs.Replies.{known, coded, Right, OutsideReplies, SessionReplies}
 
 -- ---- a heard frame is met in the phase that silence leaves
 

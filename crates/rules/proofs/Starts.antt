@@ -10,13 +10,13 @@ use Rattle.codec.specs.declared.frame.Frame.{Frame}
 use Rattle.maintenance.specs.declared.message.Message.{Message}
 use Rattle.maintenance.specs.Messages.{message, heardOn}
 use Rattle.maintenance.proofs.Messages.{and-left, and-right}
-use Rattle.monitor.specs.declared.time.Stamp.{Stamp}
-use Rattle.monitor.specs.Times.{later}
-use Rattle.monitor.specs.Events.{Event, frameEvent, resetEvent, PowerOn, stampOf, lastStamp, Run}
-use Rattle.monitor.specs.History.{near, timelyAnswer, commits, leavesOpen, leavesStart, storedAfter, inSession, pendingSince, lastStart}
-use Rattle.monitor.specs.Demand.{lookingBack, Silent, Start, at-power-on, at-reset, at-commit, after-silence, LastStart}
-use Rattle.monitor.proofs.Looking.{start-unheard, start-heard, session-heard}
-use Rattle.monitor.proofs.Sessions.{commits-only}
+use Rattle.rules.specs.declared.time.Stamp.{Stamp}
+use Rattle.rules.specs.Times.{later}
+use Rattle.rules.specs.Events.{Event, frameEvent, resetEvent, PowerOn, stampOf, lastStamp, Run}
+use Rattle.rules.specs.History.{near, timelyAnswer, commits, leavesOpen, leavesStart, storedAfter, inSession, pendingSince, lastStart}
+use Rattle.rules.specs.Demand.{lookingBack, Silent, Start, at-power-on, at-reset, at-commit, after-silence, LastStart}
+use Rattle.rules.proofs.Looking.{start-unheard, start-heard, session-heard}
+use Rattle.rules.proofs.Sessions.{commits-only}
 
 -- ---- what a heard message leaves as the last start: its own stamp, a silence after it, or what it was
 

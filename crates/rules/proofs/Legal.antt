@@ -1,0 +1,87 @@
+-- What the history says is stored is legal. Assumes nothing.
+use Prim.Native.Nat.{ℕ}
+use mathlib.Core.Path.{_≡_, refl, sym, ap, subst, _∙_}
+use mathlib.Core.Bool.{Bool, true, cond, _&&_}
+use mathlib.Core.List.{List, [], _∷_}
+use mathlib.Core.Option.{Option, none, some, Option·getD, Option·none-ne-some, Option·some-injective}
+use lib.Dec.{leb, ltb, eqb}
+use borrow.Author.Tests.{eqb-true}
+use Rattle.words.proofs.Tests.{decided}
+use Rattle.maintenance.specs.declared.setting.Setting.{Setting}
+use Rattle.maintenance.specs.declared.setting.Setting.the-variants.{ReceiveId, TransmitId, Speed, Voltage, WarningLevel, FaultLevel}
+use Rattle.maintenance.specs.declared.setting.Settings.{Settings}
+use Rattle.maintenance.specs.declared.message.Message.{Message}
+use Rattle.maintenance.specs.declared.message.Message.the-variants.{Other, Unlock, Commit, Answer as Answered, SerialRequest, Read, Write}
+use Rattle.maintenance.specs.Settings.{code, legal}
+use Rattle.maintenance.specs.Messages.{message, heardOn}
+use Rattle.maintenance.proofs.Messages.{and-left, and-right}
+use Rattle.maintenance.proofs.Settings.{Parts, accepted-parts, same-code}
+use Rattle.rules.specs.Events.{Event, frameEvent, resetEvent, PowerOn, IsAccepted}
+use Rattle.rules.specs.History.{commits, writes, newest, taking, storedAfter, inSession, lastWrite}
+use Rattle.rules.proofs.Looking.{write-heard, write-unheard}
+
+-- ---- what is stored is legal
+
+nothing : {X : Type 0} (v : ℕ) → _≡_ {A = Option ℕ} none (some v) → X
+nothing v e = absurd (Option·none-ne-some v e)
+
+-- a write is accepted only if it is legal
+writes-legal : (rating : ℕ) (s : Setting) (x : Message) (v : ℕ) → writes rating s x ≡ some v → legal rating s v ≡ true
+writes-legal rating s Unlock v e = nothing v e
+writes-legal rating s Answered v e = nothing v e
+writes-legal rating s Commit v e = nothing v e
+writes-legal rating s (SerialRequest mux) v e = nothing v e
+writes-legal rating s (Read k) v e = nothing v e
+writes-legal rating s (Write k u) v e =
+    decided (legal rating k u && eqb (code k) (code s))
+    (λ t.
+    let its : k ≡ s = same-code k s (eqb-true (code k) (code s) (and-right (legal rating k u) (eqb (code k) (code s)) t)) in
+    let same : u ≡ v = Option·some-injective u v (rw t at e) in
+    subst (λ (n : ℕ). legal rating s n ≡ true) same (subst (λ (i : Setting). legal rating i u ≡ true) its (and-left (legal rating k u) (eqb (code k) (code s)) t)))
+    (λ t. nothing v (rw t at e))
+writes-legal rating s Other v e = nothing v e
+
+newest-legal : (P : ℕ → Type 0) (new old : Option ℕ) (v : ℕ) → ((n : ℕ) → new ≡ some n → P n) → ((n : ℕ) → old ≡ some n → P n) → newest new old ≡ some v → P v
+newest-legal P none old v n o e = o v e
+newest-legal P (some u) old v n o e = n v e
+
+module _ (p : PowerOn) where
+  written-legal : (h : List Event) (s : Setting) (v : ℕ) → lastWrite p h s ≡ some v → legal (p .rating) s v ≡ true
+  unfolding storedAfter
+  written-legal [] s v e = nothing v e
+  written-legal (resetEvent at ∷ h) s v e = nothing v e
+  written-legal (frameEvent at storing f ∷ h) s v e =
+      decided (heardOn (storedAfter p h) f)
+      (λ x. decided (inSession p h at)
+      (λ o.
+      let new = writes (p .rating) s (message f) in
+      let now : newest new (lastWrite p h s) ≡ some v = sym (write-heard p at storing f h x s ∙ ap (λ (b : Bool). cond b (newest new (lastWrite p h s)) none) o) ∙ e in
+      newest-legal (λ n. legal (p .rating) s n ≡ true) new (lastWrite p h s) v (writes-legal (p .rating) s (message f)) (written-legal h s) now)
+      (λ o. nothing v (sym (write-heard p at storing f h x s ∙ ap (λ (b : Bool). cond b (newest (writes (p .rating) s (message f)) (lastWrite p h s)) none) o) ∙ e)))
+      (λ x. written-legal h s v (sym (write-unheard p at storing f h x s) ∙ e))
+
+  -- what takes legal writes is legal
+  taken : (P : ℕ → Type 0) (w : Option ℕ) (k : ℕ) → P k → ((v : ℕ) → w ≡ some v → P v) → P (Option·getD w k)
+  taken P none k a b = a
+  taken P (some v) k a b = b v refl
+
+  taking-legal : (k : Settings) (written : Setting → Option ℕ) → Parts (p .rating) k → ((s : Setting) (v : ℕ) → written s ≡ some v → legal (p .rating) s v ≡ true) → Parts (p .rating) (taking k written)
+  taking-legal k written a l =
+      record {
+        rated = a .rated;
+        receive = taken (λ v. legal (p .rating) ReceiveId v ≡ true) (written ReceiveId) (k .receive) (a .receive) (l ReceiveId);
+        transmit = taken (λ v. legal (p .rating) TransmitId v ≡ true) (written TransmitId) (k .transmit) (a .transmit) (l TransmitId);
+        speed = taken (λ v. legal (p .rating) Speed v ≡ true) (written Speed) (k .speed) (a .speed) (l Speed);
+        voltage = taken (λ v. ltb v (p .rating) ≡ true) (written Voltage) (k .voltage) (a .voltage) (λ v q. and-right (leb 1 v) (ltb v (p .rating)) (l Voltage v q));
+        warning = taken (λ v. legal (p .rating) WarningLevel v ≡ true) (written WarningLevel) (k .warning) (a .warning) (l WarningLevel);
+        fault = taken (λ v. legal (p .rating) FaultLevel v ≡ true) (written FaultLevel) (k .fault) (a .fault) (l FaultLevel);
+      }
+
+  pub stored-legal : IsAccepted p → (h : List Event) → Parts (p .rating) (storedAfter p h)
+  unfolding storedAfter
+  stored-legal a [] = accepted-parts (p .rating) (p .settings) a
+  stored-legal a (resetEvent at ∷ h) = stored-legal a h
+  stored-legal a (frameEvent at storing f ∷ h) =
+      decided (heardOn (storedAfter p h) f && inSession p h at && commits (message f) && storing)
+      (λ t. rw t (taking-legal (storedAfter p h) (λ s. lastWrite p h s) (stored-legal a h) (written-legal h)))
+      (λ t. rw t (stored-legal a h))

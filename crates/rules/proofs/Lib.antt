@@ -1,0 +1,13 @@
+-- The laws of the rules and of the reading of histories, and the proofs of what they promise.
+pub mod Rules
+pub mod Replies
+pub mod Looking
+pub mod Sessions
+pub mod Starts
+pub mod Demand
+pub mod OneReading
+pub mod History
+pub mod Legal
+pub mod Identifiers
+pub mod Marked
+pub mod Promise

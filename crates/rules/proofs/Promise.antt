@@ -1,0 +1,64 @@
+-- The rules keep their promise. Assumes nothing.
+use mathlib.Core.Path.{sym}
+use mathlib.Core.List.{List}
+use Rattle.maintenance.proofs.Settings.{parts-accepted}
+use Rattle.rules.specs.Events.{Event, PowerOn, IsAccepted, Run}
+use Rattle.rules.specs.Rules.{unitAfter}
+use Rattle.rules.specs.History.{storedAfter}
+use Rattle.rules.specs.Demand.{lookingBack}
+use Rattle.rules.specs.Promise.{stateOf, WorkedOut, Demand3, Sound, Promise}
+use Rattle.rules.proofs.Rules.{unheard, starts}
+use Rattle.rules.proofs.Replies.{outside-replies, session-replies, meets-woken}
+use Rattle.rules.proofs.History.{unit-serial, unit-rating, unit-stored, unit-session, unit-start, unit-reply}
+use Rattle.rules.proofs.Demand.{demand-back}
+use Rattle.rules.proofs.OneReading.{Same, one-reading, meets-too}
+use Rattle.rules.proofs.Legal.{stored-legal}
+use Rattle.rules.proofs.Identifiers.{reply-on}
+use Rattle.rules.proofs.Marked.{marked-runs}
+
+worked-out : (p : PowerOn) (h : List Event) → Run p h → WorkedOut p h
+worked-out p h r =
+    record {
+      serial = unit-serial p h r;
+      rating = unit-rating p h r;
+      stored = unit-stored p h r;
+      reply = unit-reply p h;
+      session = unit-session p h r;
+      start = unit-start p h r;
+    }
+
+-- the unit says what the reading says
+unit-same : (p : PowerOn) (h : List Event) → Run p h → Same p (lookingBack p) (stateOf (λ h. unitAfter p h)) h
+unit-same p h r =
+    record {
+      stored = sym (unit-stored p h r);
+      session = λ t l. sym (unit-session p h r t l);
+      start = λ t l. sym (unit-start p h r t l);
+    }
+
+demand-3 : (p : PowerOn) → Demand3 p
+demand-3 p =
+    record {
+      unit = meets-too p (lookingBack p) (stateOf (λ h. unitAfter p h)) (demand-back p) (unit-same p);
+      history = demand-back p;
+      one = one-reading p;
+    }
+
+sound : (p : PowerOn) → IsAccepted p → (h : List Event) → Sound p h
+sound p a h =
+    let parts = stored-legal p a h in
+    record { legal = parts-accepted (p .rating) (storedAfter p h) parts; identifier = λ e. reply-on p h e (parts .transmit) }
+
+pub promise : Promise
+promise =
+    record {
+      starts = starts;
+      silence = meets-woken;
+      unheard = unheard;
+      outside = outside-replies;
+      session = session-replies;
+      worked-out = worked-out;
+      demand-3 = demand-3;
+      sound = sound;
+      marked = marked-runs;
+    }

@@ -1,0 +1,97 @@
+-- What the rules promise, for every monitor, every frame and every run of events. `proofs/Promise` proves it.
+use Prim.Native.Nat.{ℕ, _+_, _<_, _≤_}
+use mathlib.Core.Path.{_≡_}
+use mathlib.Core.Bool.{Bool, true, false}
+use mathlib.Core.List.{List, _∷_}
+use Rattle.codec.specs.declared.frame.Frame.{Frame}
+use Rattle.maintenance.specs.declared.setting.Settings.{Settings}
+use Rattle.maintenance.specs.declared.message.Reply.{Reply}
+use Rattle.maintenance.specs.Settings.{accepted}
+use Rattle.maintenance.specs.Messages.{quiet as noReply}
+use Rattle.rules.specs.declared.time.Stamp.{Stamp}
+use Rattle.rules.specs.declared.unit.Session.{Session}
+use Rattle.rules.specs.declared.unit.Pending.{Pending}
+use Rattle.rules.specs.declared.unit.Pending.the-variants.{Nothing}
+use Rattle.rules.specs.declared.unit.Phase.{Phase}
+use Rattle.rules.specs.declared.unit.Phase.the-variants.{Outside, InSession}
+use Rattle.rules.specs.declared.unit.Monitor.{Monitor}
+use Rattle.rules.specs.Times.{later}
+use Rattle.rules.specs.Events.{Event, PowerOn, IsAccepted, lastStamp, Run}
+use Rattle.rules.specs.Rules.{turn, started, woken, heard, framed, wasReset, step, unitAfter}
+use Rattle.rules.specs.Replies.{OutsideReplies, SessionReplies}
+use Rattle.rules.specs.History.{storedAfter, inSession, lastStart, replyTo}
+use Rattle.rules.specs.Demand.{Reading, Demand, lookingBack}
+use Rattle.rules.specs.Marked.{MarkedRuns}
+
+-- ---- rules
+
+-- A monitor that has just started: "locked, with no draft and nothing pending". The serial, the rating and the stored six are all that
+-- is left of what was.
+pub record Fresh (bytes : List ℕ) (volts : ℕ) (k : Settings) (at : Stamp) (m : Monitor) : Type 0 where
+  pub serial : m .serial ≡ bytes
+  pub rating : m .rating ≡ volts
+  pub stored : m .stored ≡ k
+  pub start : m .start ≡ at
+  pub locked : m .phase ≡ Outside Nothing
+
+-- "Frames not heard get no reply", and change nothing but what silence has already changed.
+abbrev pub UnheardChangesNothing : Type 0
+UnheardChangesNothing = (at : Stamp) (storing : Bool) (f : Frame) (m : Monitor) → heard f m ≡ false → framed at storing f m ≡ turn (woken at m) noReply
+
+-- "and meets the event as locked": a frame is met as if the silence had come on its own
+abbrev pub MeetsAsWoken : Type 0
+MeetsAsWoken = (at : Stamp) (storing : Bool) (f : Frame) (m : Monitor) → framed at storing f m ≡ framed at storing f (woken at m)
+
+-- every start is fresh; a reset is one, and so is a silence of more than 2,000 ms in a session
+pub record Starts (m : Monitor) : Type 0 where
+  pub fresh : (at : Stamp) (k : Settings) → Fresh (m .serial) (m .rating) k at (started at k m)
+  pub reset : (at : Stamp) → wasReset at m ≡ turn (started at (m .stored) m) noReply
+  pub silence : (s : Session) (at : Stamp) → m .phase ≡ InSession s → s .heard .0 + 2000 < at .0 → woken at m ≡ started (later (s .heard) 2000) (m .stored) m
+
+-- ---- what the history says
+
+abbrev pub isOpen : Phase → Bool
+isOpen (Outside pending) = false
+isOpen (InSession s) = true
+
+-- what a monitor's own state says, silence counted, if this is the monitor after each history
+abbrev pub stateOf : (List Event → Monitor) → Reading
+stateOf unit = record { stored = λ h. unit h .stored; session = λ h t. isOpen (woken t (unit h) .phase); start = λ h t. woken t (unit h) .start }
+
+-- after a run the unit, its next reply and its last start are those worked out from the history
+pub record WorkedOut (p : PowerOn) (h : List Event) : Type 0 where
+  pub serial : unitAfter p h .serial ≡ p .serial
+  pub rating : unitAfter p h .rating ≡ p .rating
+  pub stored : unitAfter p h .stored ≡ storedAfter p h
+  pub reply : (e : Event) → Run p (e ∷ h) → step e (unitAfter p h) .reply ≡ replyTo p h e
+  pub session : (t : Stamp) → lastStamp p h .0 ≤ t .0 → isOpen (woken t (unitAfter p h) .phase) ≡ inSession p h t
+  pub start : (t : Stamp) → lastStamp p h .0 ≤ t .0 → woken t (unitAfter p h) .start ≡ lastStart p h t
+
+-- the demand in its own words: of the unit, and of the reading that looks back. The words leave no choice.
+pub record Demand3 (p : PowerOn) : Type 0 where
+  pub unit : Demand p (stateOf (λ h. unitAfter p h))
+  pub history : Demand p (lookingBack p)
+  pub one : (r r′ : Reading) → Demand p r → Demand p r′ → (h : List Event) → Run p h → r .stored h ≡ r′ .stored h
+
+-- a reply is an extended frame on the identifier
+abbrev pub OnIdentifier : ℕ → Reply → Type 0
+OnIdentifier identifier r = r .sent ≡ true → (r .frame .extended ≡ true) × (r .frame .identifier ≡ identifier)
+
+-- what the history says is legal, and said on the stored identifier
+pub record Sound (p : PowerOn) (h : List Event) : Type 0 where
+  pub legal : accepted (p .rating) (storedAfter p h) ≡ true
+  -- "Every reply is on the transmit identifier stored before the event."
+  pub identifier : (e : Event) → OnIdentifier (storedAfter p h .transmit) (replyTo p h e)
+
+-- ---- the promise
+
+pub record Promise : Type 0 where
+  pub starts : (m : Monitor) → Starts m
+  pub silence : MeetsAsWoken
+  pub unheard : UnheardChangesNothing
+  pub outside : (m : Monitor) (pending : Pending) (at : Stamp) (storing : Bool) (f : Frame) → m .phase ≡ Outside pending → heard f m ≡ true → OutsideReplies m pending at storing f
+  pub session : (m : Monitor) (s : Session) (at : Stamp) (storing : Bool) (f : Frame) → m .phase ≡ InSession s → at .0 ≤ s .heard .0 + 2000 → heard f m ≡ true → SessionReplies m s at storing f
+  pub worked-out : (p : PowerOn) (h : List Event) → Run p h → WorkedOut p h
+  pub demand-3 : (p : PowerOn) → Demand3 p
+  pub sound : (p : PowerOn) → IsAccepted p → (h : List Event) → Sound p h
+  pub marked : MarkedRuns
