@@ -19,7 +19,6 @@ use Rattle.maintenance.proofs.Messages.{Listed, serial-listed}
 use Rattle.rules.specs.declared.time.Stamp.{Stamp}
 use Rattle.rules.specs.Events.{Event, frameEvent, resetEvent, PowerOn}
 use Rattle.rules.specs.History.{timelyUnlock, timelyAnswer, storedAfter, inSession, pendingSince, lastStart, replyToAnswer, replyOutside, replyInside, replyTo}
-
 use Rattle.rules.specs.Promise.{OnIdentifier}
 
 -- ---- replies on an identifier
