@@ -6,13 +6,4 @@ use Rattle.rules.specs.Marked.{MarkedRuns}
 
 pub marked-runs : MarkedRuns
 unfolding storedAfter message
-marked-runs =
-    record {
-      p1 = record { stored-run = refl; stored-back = refl; replies-run = refl; replies-back = refl };
-      p2 = record { stored-run = refl; stored-back = refl; replies-run = refl; replies-back = refl };
-      p3 = record { stored-run = refl; stored-back = refl; replies-run = refl; replies-back = refl };
-      p4 = record { stored-run = refl; stored-back = refl; replies-run = refl; replies-back = refl };
-      p5 = record { stored-run = refl; stored-back = refl; replies-run = refl; replies-back = refl };
-      p6 = record { stored-run = refl; stored-back = refl; replies-run = refl; replies-back = refl };
-      p8 = record { stored-run = refl; stored-back = refl; replies-run = refl; replies-back = refl };
-    }
+marked-runs = record { running = refl; looking-back = refl }

@@ -2,7 +2,7 @@
 use Prim.Native.Nat.{ℕ}
 use mathlib.Core.Path.{_≡_}
 use mathlib.Core.Bool.{Bool, true, false}
-use mathlib.Core.List.{List, [], _∷_}
+use mathlib.Core.List.{List, [], _∷_, map}
 use Rattle.maintenance.specs.declared.setting.Settings.{Settings}
 use Rattle.maintenance.specs.declared.message.Reply.{Reply}
 use Rattle.rules.specs.Events.{Event, frameEvent, PowerOn}
@@ -54,29 +54,50 @@ acked = replied (0x41 ∷ 0x43 ∷ 0x4B ∷ [])
 abbrev pub naked : Given
 naked = replied (0x4E ∷ 0x41 ∷ 0x4B ∷ [])
 
--- the replies to the events of a history, the newest first, by whoever says them
+-- ---- the table
+
+-- what a run shows: the six stored after it, and the replies to its events, the newest first
+pub record Shown : Type 0 where
+  pub stored : Settings
+  pub replies : List Given
+
 abbrev pub repliesBy : (List Event → Event → Reply) → List Event → List Given
 repliesBy says [] = []
 repliesBy says (e ∷ h) = givenReply (says h e) ∷ repliesBy says h
 
--- ---- the runs
+-- what it shows to one who tells what is stored after a history, and what is replied to an event after it
+abbrev pub shownBy : (List Event → Settings) → (List Event → Event → Reply) → List Event → Shown
+shownBy stores says h = record { stored = stores h; replies = repliesBy says h }
 
--- both readings store this fault level and give these replies
-pub record Both (h : List Event) (level : ℕ) (replies : List Given) : Type 0 where
-  pub stored-run : unitAfter markedUnit h .stored ≡ defaultsWith level
-  pub stored-back : storedAfter markedUnit h ≡ defaultsWith level
-  pub replies-run : repliesBy (λ h e. step e (unitAfter markedUnit h) .reply) h ≡ replies
-  pub replies-back : repliesBy (λ h e. replyTo markedUnit h e) h ≡ replies
+pub record Row : Type 0 where
+  pub run : List Event
+  pub level : ℕ
+  pub said : List Given
+
+infix 20 _stores_saying_
+abbrev pub _stores_saying_ : List Event → ℕ → List Given → Row
+run stores level saying said = record { run = run; level = level; said = said }
+
+abbrev pub table : List Row
+table =
+    -- P1
+    ((commitAt 4000 true ∷ writeAt 3500 ∷ answerAt 1500 ∷ unlockAt 1000 ∷ []) stores 250 saying (acked ∷ acked ∷ acked ∷ challenge ∷ []))
+    -- P2 "the write at 3501 instead: two replies, fault level 100"
+    ∷ ((commitAt 4000 true ∷ writeAt 3501 ∷ answerAt 1500 ∷ unlockAt 1000 ∷ []) stores 100 saying (quiet ∷ quiet ∷ acked ∷ challenge ∷ []))
+    -- P3 "unlock at 10,000 is challenged", P4 "at 10,001 NAK"
+    ∷ ((unlockAt 10000 ∷ []) stores 100 saying (challenge ∷ []))
+    ∷ ((unlockAt 10001 ∷ []) stores 100 saying (naked ∷ []))
+    -- P5 "answer 2,000 ms after the challenge ACK", P6 "2,001 NAK"; with the write and the commit of P1 after it
+    ∷ ((commitAt 4000 true ∷ writeAt 3500 ∷ answerAt 3000 ∷ unlockAt 1000 ∷ []) stores 250 saying (acked ∷ acked ∷ acked ∷ challenge ∷ []))
+    ∷ ((commitAt 4000 true ∷ writeAt 3500 ∷ answerAt 3001 ∷ unlockAt 1000 ∷ []) stores 100 saying (quiet ∷ quiet ∷ naked ∷ challenge ∷ []))
+    -- P8 "commit with storage failing"
+    ∷ ((commitAt 4000 false ∷ writeAt 3500 ∷ answerAt 1500 ∷ unlockAt 1000 ∷ []) stores 100 saying (naked ∷ acked ∷ acked ∷ challenge ∷ []))
+    ∷ []
+
+-- every row of the table, told by a reading
+abbrev pub Tells : (List Event → Shown) → Type 0
+Tells shows = map (λ row. shows (row .run)) table ≡ map (λ row. record { stored = defaultsWith (row .level); replies = row .said }) table
 
 pub record MarkedRuns : Type 0 where
-  pub p1 : Both (commitAt 4000 true ∷ writeAt 3500 ∷ answerAt 1500 ∷ unlockAt 1000 ∷ []) 250 (acked ∷ acked ∷ acked ∷ challenge ∷ [])
-  -- "the write at 3501 instead: two replies, fault level 100"
-  pub p2 : Both (commitAt 4000 true ∷ writeAt 3501 ∷ answerAt 1500 ∷ unlockAt 1000 ∷ []) 100 (quiet ∷ quiet ∷ acked ∷ challenge ∷ [])
-  -- "unlock at 10,000 is challenged", "at 10,001 NAK"
-  pub p3 : Both (unlockAt 10000 ∷ []) 100 (challenge ∷ [])
-  pub p4 : Both (unlockAt 10001 ∷ []) 100 (naked ∷ [])
-  -- "answer 2,000 ms after the challenge ACK", "2,001 NAK"
-  pub p5 : Both (commitAt 4000 true ∷ writeAt 3500 ∷ answerAt 3000 ∷ unlockAt 1000 ∷ []) 250 (acked ∷ acked ∷ acked ∷ challenge ∷ [])
-  pub p6 : Both (commitAt 4000 true ∷ writeAt 3500 ∷ answerAt 3001 ∷ unlockAt 1000 ∷ []) 100 (quiet ∷ quiet ∷ naked ∷ challenge ∷ [])
-  -- "commit with storage failing"
-  pub p8 : Both (commitAt 4000 false ∷ writeAt 3500 ∷ answerAt 1500 ∷ unlockAt 1000 ∷ []) 100 (naked ∷ acked ∷ acked ∷ challenge ∷ [])
+  pub running : Tells (shownBy (λ h. unitAfter markedUnit h .stored) (λ h e. step e (unitAfter markedUnit h) .reply))
+  pub looking-back : Tells (shownBy (λ h. storedAfter markedUnit h) (λ h e. replyTo markedUnit h e))
