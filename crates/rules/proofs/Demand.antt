@@ -16,9 +16,10 @@ use Rattle.rules.specs.declared.time.Stamp.{Stamp}
 use Rattle.rules.specs.Events.{Event, frameEvent, resetEvent, PowerOn, stampOf, lastStamp}
 use Rattle.rules.specs.History.{commits, taking, storedAfter, inSession, lastWrite}
 use Rattle.rules.specs.Demand.{Reading, lookingBack, Opened, Stores, Changes, Demand}
-use Rattle.rules.proofs.Looking.{stored-frame}
+use Rattle.rules.proofs.Looking.{commits-only, stored-frame}
 use Rattle.rules.proofs.Starts.{last-start}
-use Rattle.rules.proofs.Sessions.{commits-only, opened-session, opened-writes, session-opened}
+use Rattle.rules.proofs.Sessions.{opened-session, opened-writes}
+use Rattle.rules.proofs.Opened.{session-opened}
 
 -- ---- settings, one by one
 

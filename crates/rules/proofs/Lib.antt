@@ -3,6 +3,7 @@ pub mod Rules
 pub mod Replies
 pub mod Looking
 pub mod Sessions
+pub mod Opened
 pub mod Starts
 pub mod Demand
 pub mod OneReading

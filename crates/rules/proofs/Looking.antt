@@ -1,15 +1,40 @@
 -- Looking back over one event more: what each question answers after a reset, a frame that was heard and one that was not. Assumes nothing.
-use mathlib.Core.Path.{_≡_, refl}
+use mathlib.Core.Path.{_≡_, refl, sym}
 use mathlib.Core.Bool.{Bool, true, false, cond, _&&_}
 use mathlib.Core.List.{List, _∷_, _++_}
 use mathlib.Core.Option.{none}
 use Rattle.codec.specs.declared.frame.Frame.{Frame}
 use Rattle.maintenance.specs.declared.setting.Setting.{Setting}
+use Rattle.maintenance.specs.declared.message.Message.{Message}
+use Rattle.maintenance.specs.declared.message.Message.the-variants.{Other, Unlock, Commit, Answer, SerialRequest, Read, Write}
 use Rattle.maintenance.specs.Messages.{message, heardOn}
+use Rattle.words.proofs.Tests.{false-true}
 use Rattle.rules.specs.declared.time.Stamp.{Stamp}
 use Rattle.rules.specs.Events.{Event, frameEvent, PowerOn}
-use Rattle.rules.specs.History.{near, timelyUnlock, timelyAnswer, commits, writes, leavesOpen, leavesPending, leavesStart, newest, taking, storedAfter, inSession, pendingSince, lastStart, lastWrite}
+use Rattle.rules.specs.History.{near, timelyUnlock, timelyAnswer, answers, commits, writes, leavesOpen, leavesPending, leavesStart, newest, taking, storedAfter, inSession, pendingSince, lastStart, lastWrite}
 use Rattle.rules.specs.Demand.{lookingBack, heardIn}
+
+-- ---- what a message is
+
+pub answers-only : (x : Message) → answers x ≡ true → x ≡ Answer
+answers-only Unlock e = false-true (sym e)
+answers-only Answer e = refl
+answers-only Commit e = false-true (sym e)
+answers-only (SerialRequest mux) e = false-true (sym e)
+answers-only (Read s) e = false-true (sym e)
+answers-only (Write s v) e = false-true (sym e)
+answers-only Other e = false-true (sym e)
+
+pub commits-only : (x : Message) → commits x ≡ true → x ≡ Commit
+commits-only Unlock e = false-true (sym e)
+commits-only Answer e = false-true (sym e)
+commits-only Commit e = refl
+commits-only (SerialRequest mux) e = false-true (sym e)
+commits-only (Read s) e = false-true (sym e)
+commits-only (Write s v) e = false-true (sym e)
+commits-only Other e = false-true (sym e)
+
+-- ---- one event more
 
 module _ (p : PowerOn) (at : Stamp) (storing : Bool) (f : Frame) (h : List Event) where
   abbrev it : Event

@@ -14,7 +14,7 @@ use Rattle.maintenance.specs.Messages.{heardOn}
 use Rattle.rules.specs.declared.time.Stamp.{Stamp}
 use Rattle.rules.specs.Events.{Event, frameEvent, resetEvent, PowerOn, lastStamp, Run}
 use Rattle.rules.specs.History.{unlocks, answers, commits}
-use Rattle.rules.specs.Demand.{Reading, Heard, heardIn, No, Close, lastAccepted, Unlocked, Opened, heardSince, Stores, Changes, Silent, Start, at-power-on, at-reset, at-commit, after-silence, LastStart, Demand}
+use Rattle.rules.specs.Demand.{Reading, Heard, heardIn, No, Close, lastAccepted, Past, heardSince, Unlocked, Opened, Stores, Changes, Silent, Start, at-power-on, at-reset, at-commit, after-silence, LastStart, Demand}
 use Rattle.rules.proofs.Demand.{same-settings, by-store}
 
 -- ---- places in a run
@@ -57,58 +57,62 @@ module _ (p : PowerOn) (r r′ : Reading) where
       ap (λ (k : Settings). cond (heardOn k f) (record { at = at; frame = f } ∷ heardIn r since before) (heardIn r since before)) (b .0 .stored)
       ∙ ap (λ (l : List Heard). cond (heardOn (r′ .stored (since ++ before)) f) (record { at = at; frame = f } ∷ l) l) (heard-same since before (b .1))
 
-  unlocked-same : (h : List Event) → Run p h → Before (Same p r r′) h → Unlocked r h → Unlocked r′ h
-  unlocked-same h run b w =
-      let its = frameEvent (w .at) (w .storing) (w .unlock) in
-      let all = subst (Before (Same p r r′)) (w .place) b in
-      let l = run-before p (w .since) (its ∷ w .before) (subst (Run p) (w .place) run) .1 .0 in
-      let same = before-that (Same p r r′) (w .since) its (w .before) all .0 in
+  -- a message heard is heard by the other too, and what was heard since is the same
+  past-same : (h : List Event) → Run p h → Before (Same p r r′) h → Past r h → Past r′ h
+  past-same h run b m =
+      let same = before-that (Same p r r′) (m .since) (frameEvent (m .at) (m .storing) (m .frame)) (m .before) (subst (Before (Same p r r′)) (m .place) b) .0 in
       record {
-        since = w .since;
-        at = w .at;
-        storing = w .storing;
-        unlock = w .unlock;
-        before = w .before;
-        place = w .place;
-        heard = subst (λ (k : Settings). heardOn k (w .unlock) ≡ true) (same .stored) (w .heard);
+        since = m .since;
+        at = m .at;
+        storing = m .storing;
+        frame = m .frame;
+        before = m .before;
+        place = m .place;
+        heard = subst (λ (k : Settings). heardOn k (m .frame) ≡ true) (same .stored) (m .heard);
+        no-reset = m .no-reset;
+      }
+
+  since-same : (h : List Event) (run : Run p h) (b : Before (Same p r r′) h) (m : Past r h) → heardSince r h m ≡ heardSince r′ h (past-same h run b m)
+  unfolding past-same
+  since-same h run b m =
+      heard-same (m .since) (frameEvent (m .at) (m .storing) (m .frame) ∷ m .before) (subst (Before (Same p r r′)) (m .place) b)
+
+  -- what was before it
+  run-there : (h : List Event) → Run p h → (m : Past r h) → Run p (frameEvent (m .at) (m .storing) (m .frame) ∷ m .before)
+  run-there h run m = run-before p (m .since) (frameEvent (m .at) (m .storing) (m .frame) ∷ m .before) (subst (Run p) (m .place) run)
+
+  same-there : (h : List Event) → Before (Same p r r′) h → (m : Past r h) → Same p r r′ (m .before) × Before (Same p r r′) (m .before)
+  same-there h b m =
+      before-that (Same p r r′) (m .since) (frameEvent (m .at) (m .storing) (m .frame)) (m .before) (subst (Before (Same p r r′)) (m .place) b)
+
+  unlocked-same : (h : List Event) → Run p h → Before (Same p r r′) h → Unlocked r h → Unlocked r′ h
+  unfolding past-same
+  unlocked-same h run b w =
+      let u = w .unlock in
+      let l = run-there h run u .1 .0 in
+      let same = same-there h b u .0 in
+      record {
+        unlock = past-same h run b u;
         unlocking = w .unlocking;
-        outside = sym (same .session (w .at) l) ∙ w .outside;
-        timely = subst (λ (s : Stamp). w .at .0 ≤ s .0 + 10000) (same .start (w .at) l) (w .timely);
-        no-reset = w .no-reset;
-        no-unlock = subst (No unlocks) (heard-same (w .since) (its ∷ w .before) all) (w .no-unlock);
-        no-answer = subst (No answers) (heard-same (w .since) (its ∷ w .before) all) (w .no-answer);
+        outside = sym (same .session (u .at) l) ∙ w .outside;
+        timely = subst (λ (s : Stamp). u .at .0 ≤ s .0 + 10000) (same .start (u .at) l) (w .timely);
+        no-unlock = subst (No unlocks) (since-same h run b u) (w .no-unlock);
+        no-answer = subst (No answers) (since-same h run b u) (w .no-answer);
       }
 
   opened-same : (h : List Event) → Run p h → Before (Same p r r′) h → (t : Stamp) → Opened p r h t → Opened p r′ h t
-  unfolding unlocked-same
+  unfolding past-same unlocked-same
   opened-same h run b t w =
-      let its = frameEvent (w .at) (w .storing) (w .answer) in
-      let all = subst (Before (Same p r r′)) (w .place) b in
-      let run′ = run-before p (w .since) (its ∷ w .before) (subst (Run p) (w .place) run) in
-      let same = before-that (Same p r r′) (w .since) its (w .before) all in
-      let hears = heard-same (w .since) (its ∷ w .before) all in
+      let a = w .answer in
       record {
-        since = w .since;
-        at = w .at;
-        storing = w .storing;
-        answer = w .answer;
-        before = w .before;
-        place = w .place;
-        heard = subst (λ (k : Settings). heardOn k (w .answer) ≡ true) (same .0 .stored) (w .heard);
+        answer = past-same h run b a;
         answering = w .answering;
         right = w .right;
-        unlock = unlocked-same (w .before) (run′ .1 .1) (same .1) (w .unlock);
+        unlocked = unlocked-same (a .before) (run-there h run a .1 .1) (same-there h b a .1) (w .unlocked);
         timely = w .timely;
-        no-reset = w .no-reset;
-        no-commit = subst (No commits) hears (w .no-commit);
-        close = subst (λ (l : List Heard). Close (w .at) l t) hears (w .close);
+        no-commit = subst (No commits) (since-same h run b a) (w .no-commit);
+        close = subst (λ (l : List Heard). Close (a .at) l t) (since-same h run b a) (w .close);
       }
-
-  -- what was heard in it is the same
-  since-same : (h : List Event) (run : Run p h) (b : Before (Same p r r′) h) (t : Stamp) (w : Opened p r h t) → heardSince p r h t w ≡ heardSince p r′ h t (opened-same h run b t w)
-  unfolding opened-same
-  since-same h run b t w =
-      heard-same (w .since) (frameEvent (w .at) (w .storing) (w .answer) ∷ w .before) (subst (Before (Same p r r′)) (w .place) b)
 
   stores-same : (h : List Event) → Run p h → Same p r r′ h → Before (Same p r r′) h → (e : Event) → Stores p r h e → Stores p r′ h e
   stores-same h run s b e w =
@@ -179,7 +183,7 @@ module _ (p : PowerOn) (r r′ : Reading) (d : Demand p r) (d′ : Demand p r′
       (d .starts h run t l .latest (r′ .start h t) (start-same p r′ r h run (flip-before p r r′ h b) (λ u m. sym (s u m)) t (r′ .start h t) (d′ .starts h run t l .started)))
 
   next-same : (e : Event) (h : List Event) → Run p (e ∷ h) → Same p r r′ h → Before (Same p r r′) h → r .stored (e ∷ h) ≡ r′ .stored (e ∷ h)
-  unfolding stores-same
+  unfolding stores-same opened-same past-same
   next-same e h run s b =
       let c = d .six e h run in
       let c′ = d′ .six e h run in
@@ -190,8 +194,8 @@ module _ (p : PowerOn) (r r′ : Reading) (d : Demand p r) (d′ : Demand p r′
       same-settings (r .stored (e ∷ h)) (r′ .stored (e ∷ h))
       (λ x.
       c .takes w x
-      ∙ (ap (λ (l : List Heard). value x (r .stored h) l) (since-same p r r′ h (run .1 .1) b (w .at) (w .session))
-      ∙ (ap (λ (k : Settings). value x k (heardSince p r′ h (w′ .at) (w′ .session))) (s .stored)
+      ∙ (ap (λ (l : List Heard). value x (r .stored h) l) (since-same p r r′ h (run .1 .1) b (w .session .answer))
+      ∙ (ap (λ (k : Settings). value x k (heardSince r′ h (w′ .session .answer))) (s .stored)
       ∙ sym (c′ .takes w′ x)))))
       (λ none.
       c .stays none
@@ -215,7 +219,7 @@ module _ (p : PowerOn) (r r′ : Reading) (d : Demand p r) (same : (h : List Eve
   all-before (e ∷ h) run = (same h (run .1 .1), all-before h (run .1 .1))
 
   changes-too : (e : Event) (h : List Event) → Run p (e ∷ h) → Changes p r′ h e
-  unfolding stores-same
+  unfolding stores-same opened-same past-same
   changes-too e h run =
       let c = d .six e h run in
       let s = same h (run .1 .1) in
@@ -229,8 +233,8 @@ module _ (p : PowerOn) (r r′ : Reading) (d : Demand p r) (same : (h : List Eve
         takes = λ w x.
             ap (λ (k : Settings). valueOf k x) (sym (n .stored))
             ∙ (c .takes (back w) x
-            ∙ (ap (λ (l : List Heard). value x (r .stored h) l) (sym (since-same p r′ r h (run .1 .1) (flip-before p r r′ h b) (w .at) (w .session)))
-            ∙ ap (λ (k : Settings). value x k (heardSince p r′ h (w .at) (w .session))) (s .stored)));
+            ∙ (ap (λ (l : List Heard). value x (r .stored h) l) (sym (since-same p r′ r h (run .1 .1) (flip-before p r r′ h b) (w .session .answer)))
+            ∙ ap (λ (k : Settings). value x k (heardSince r′ h (w .session .answer))) (s .stored)));
         stays = λ none. sym (n .stored) ∙ (c .stays (λ w. none (there w)) ∙ s .stored);
       }
 

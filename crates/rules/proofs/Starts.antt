@@ -15,8 +15,7 @@ use Rattle.rules.specs.Times.{later}
 use Rattle.rules.specs.Events.{Event, frameEvent, resetEvent, PowerOn, stampOf, lastStamp, Run}
 use Rattle.rules.specs.History.{near, timelyAnswer, commits, leavesOpen, leavesStart, storedAfter, inSession, pendingSince, lastStart}
 use Rattle.rules.specs.Demand.{lookingBack, Silent, Start, at-power-on, at-reset, at-commit, after-silence, LastStart}
-use Rattle.rules.proofs.Looking.{start-unheard, start-heard, session-heard}
-use Rattle.rules.proofs.Sessions.{commits-only}
+use Rattle.rules.proofs.Looking.{commits-only, start-unheard, start-heard, session-heard}
 
 -- ---- what a heard message leaves as the last start: its own stamp, a silence after it, or what it was
 

@@ -64,44 +64,41 @@ lastAccepted rating s (m ∷ ms) = newest (writes rating s (message (m .frame)))
 
 -- ---- the session
 
--- "a timely unlock": heard outside a session, at most 10,000 ms after the last start. Its challenge is still there: no reset, and no other unlock and no
--- answer heard since.
-pub record Unlocked (r : Reading) (h : List Event) : Type 0 where
+-- a message that was heard: its place in the history, and no reset since
+pub record Past (r : Reading) (h : List Event) : Type 0 where
   pub since : List Event
   pub at : Stamp
   pub storing : Bool
-  pub unlock : Frame
+  pub frame : Frame
   pub before : List Event
-  pub place : h ≡ since ++ (frameEvent at storing unlock ∷ before)
-  pub heard : heardOn (r .stored before) unlock ≡ true
-  pub unlocking : message unlock ≡ Unlock
-  pub outside : r .session before at ≡ false
-  pub timely : at .0 ≤ r .start before at .0 + 10000
+  pub place : h ≡ since ++ (frameEvent at storing frame ∷ before)
+  pub heard : heardOn (r .stored before) frame ≡ true
   pub no-reset : hasReset since ≡ false
-  pub no-unlock : No unlocks (heardIn r since (frameEvent at storing unlock ∷ before))
-  pub no-answer : No answers (heardIn r since (frameEvent at storing unlock ∷ before))
+
+-- what was heard since
+abbrev pub heardSince : (r : Reading) (h : List Event) → Past r h → List Heard
+heardSince r h m = heardIn r (m .since) (frameEvent (m .at) (m .storing) (m .frame) ∷ m .before)
+
+-- "a timely unlock": heard outside a session, at most 10,000 ms after the last start. Its challenge is still there: no reset, and no other unlock and no
+-- answer heard since.
+pub record Unlocked (r : Reading) (h : List Event) : Type 0 where
+  pub unlock : Past r h
+  pub unlocking : message (unlock .frame) ≡ Unlock
+  pub outside : r .session (unlock .before) (unlock .at) ≡ false
+  pub timely : unlock .at .0 ≤ r .start (unlock .before) (unlock .at) .0 + 10000
+  pub no-unlock : No unlocks (heardSince r h unlock)
+  pub no-answer : No answers (heardSince r h unlock)
 
 -- "inside a session opened by a timely unlock and its timely right answer, with no reset, no earlier commit heard and no two successive heard
 -- messages over 2,000 ms apart since that answer": such a session for a message at t
 pub record Opened (p : PowerOn) (r : Reading) (h : List Event) (t : Stamp) : Type 0 where
-  pub since : List Event
-  pub at : Stamp
-  pub storing : Bool
-  pub answer : Frame
-  pub before : List Event
-  pub place : h ≡ since ++ (frameEvent at storing answer ∷ before)
-  pub heard : heardOn (r .stored before) answer ≡ true
-  pub answering : message answer ≡ Answer
-  pub right : isRight (p .serial) answer ≡ true
-  pub unlock : Unlocked r before
-  pub timely : at .0 ≤ unlock .at .0 + 2000
-  pub no-reset : hasReset since ≡ false
-  pub no-commit : No commits (heardIn r since (frameEvent at storing answer ∷ before))
-  pub close : Close at (heardIn r since (frameEvent at storing answer ∷ before)) t
-
--- what was heard in it since its answer
-abbrev pub heardSince : (p : PowerOn) (r : Reading) (h : List Event) (t : Stamp) → Opened p r h t → List Heard
-heardSince p r h t s = heardIn r (s .since) (frameEvent (s .at) (s .storing) (s .answer) ∷ s .before)
+  pub answer : Past r h
+  pub answering : message (answer .frame) ≡ Answer
+  pub right : isRight (p .serial) (answer .frame) ≡ true
+  pub unlocked : Unlocked r (answer .before)
+  pub timely : answer .at .0 ≤ unlocked .unlock .at .0 + 2000
+  pub no-commit : No commits (heardSince r h answer)
+  pub close : Close (answer .at) (heardSince r h answer) t
 
 -- ---- the event that stores
 
@@ -121,7 +118,7 @@ pub record Changes (p : PowerOn) (r : Reading) (h : List Event) (e : Event) : Ty
   -- "They change only at": where one of the six differs
   pub only : (s : Setting) → (valueOf (r .stored (e ∷ h)) s ≡ valueOf (r .stored h) s → ⊥) → Stores p r h e
   -- "Each setting then takes that session's last accepted write to it, if there was one."
-  pub takes : (w : Stores p r h e) (s : Setting) → valueOf (r .stored (e ∷ h)) s ≡ Option·getD (lastAccepted (p .rating) s (heardSince p r h (w .at) (w .session))) (valueOf (r .stored h) s)
+  pub takes : (w : Stores p r h e) (s : Setting) → valueOf (r .stored (e ∷ h)) s ≡ Option·getD (lastAccepted (p .rating) s (heardSince r h (w .session .answer))) (valueOf (r .stored h) s)
   -- "At every other event all six stay."
   pub stays : (Stores p r h e → ⊥) → r .stored (e ∷ h) ≡ r .stored h
 
