@@ -21,7 +21,7 @@ use Rattle.maintenance.specs.Messages.{quiet}
 use Rattle.rules.specs.Rules.{startedWith, uptimeOf, step}
 use Rattle.rules.specs.Events.{Event, PowerOn, stampOf, beyond}
 
--- 7: "a stamp earlier than the last accepted one (or power-on)"
+-- refusal 7: "a stamp earlier than the last accepted one (or power-on)"
 abbrev pub early : Event → Bench → Bool
 early e b = earlier (stampOf e) (b .last)
 
@@ -54,7 +54,7 @@ benchAt at m = record { monitor = m; last = at }
 abbrev pub noBench : Bench
 noBench = benchAt zeroStamp (startedWith (replicate 16 0) 0 zeroSettings zeroStamp)
 
--- 8. A refusal returns the number alone: no monitor is on
+-- refusal 8. A refusal returns the number alone: no monitor is on
 abbrev pub poweredOn : Stamp → List ℕ → ℕ → Settings → PoweredOn
 poweredOn at serial rating k =
     cond (accepted rating k)

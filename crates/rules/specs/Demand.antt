@@ -149,7 +149,9 @@ pub record LastStart (p : PowerOn) (r : Reading) (h : List Event) (t s : Stamp) 
 
 -- what the demand says of a reading, over every run of accepted events from a power-on
 pub record Demand (p : PowerOn) (r : Reading) : Type 0 where
+  -- before any event the six are those that power-on accepted
   pub first : Run p [] → r .stored [] ≡ p .settings
   pub six : (e : Event) (h : List Event) → Run p (e ∷ h) → Changes p r h e
+  -- and the two notions that the words lean on, at places before the event, mean what the words say there
   pub sessions : (h : List Event) → Run p h → (t : Stamp) → lastStamp p h .0 ≤ t .0 → r .session h t ≡ true ↔ Opened p r h t
   pub starts : (h : List Event) → Run p h → (t : Stamp) → lastStamp p h .0 ≤ t .0 → LastStart p r h t (r .start h t)

@@ -19,7 +19,7 @@ abbrev pub stampOf : Event → Stamp
 stampOf (frameEvent at storing f) = at
 stampOf (resetEvent at) = at
 
--- 1
+-- refusal 1
 abbrev pub beyond : Event → Bool
 beyond (frameEvent at storing f) = overLimits f
 beyond (resetEvent at) = false
