@@ -83,6 +83,7 @@ holds p a h =
     record {
       run = r;
       same = q;
+      stored = stored;
       serial = ap (λ (m : Monitor). m .serial) there ∙ unit .serial;
       rating = ap (λ (m : Monitor). m .rating) there ∙ unit .rating;
       legal = rw stored (sound .legal);

@@ -1,17 +1,21 @@
 -- After every run of accepted events the bench is what the history says, and its monitor meets the demand in its own words. Assumes nothing.
 use mathlib.Core.Path.{_≡_, refl, sym, ap, _∙_}
 use mathlib.Core.List.{List}
+use borrow.Author.Tests.{le-ltb}
 use Rattle.maintenance.specs.Settings.{accepted}
+use Rattle.rules.specs.declared.time.Stamp.{Stamp}
 use Rattle.rules.specs.declared.unit.Monitor.{Monitor}
+use Rattle.rules.specs.Times.{ticksBetween}
 use Rattle.rules.specs.Rules.{woken, unitAfter}
-use Rattle.rules.specs.Events.{Event, PowerOn, Run}
+use Rattle.rules.specs.Events.{Event, PowerOn, lastStamp, Run}
 use Rattle.rules.specs.Demand.{Demand}
 use Rattle.rules.specs.Promise.{isOpen, stateOf}
 use Rattle.rules.proofs.OneReading.{Same, meets-too}
 use Rattle.rules.proofs.Promise.{promise as rules}
 use Rattle.monitor.specs.declared.bench.Bench.{Bench}
 use Rattle.monitor.specs.declared.bench.Outcome.{Outcome}
-use Rattle.monitor.specs.Bench.{after}
+use Rattle.monitor.specs.declared.bench.UptimeReading.the-variants.{Read as Ticked}
+use Rattle.monitor.specs.Bench.{uptimeAsked, after}
 use Rattle.monitor.specs.Promise.{RunsAreAccepted, WorkedOut}
 use Rattle.monitor.proofs.Reached.{bench-after, accepted-next, run-further, run-on}
 
@@ -36,6 +40,9 @@ worked-out p h r =
       stored = ap (λ (m : Monitor). m .stored) (unit-there p h r) ∙ unit .stored;
       reply = λ e run. ap (λ (o : Outcome). o .reply) (accepted-next p e h run) ∙ unit .reply e run;
       start = λ t l. ap (λ (m : Monitor). woken t m .start) (unit-there p h r) ∙ unit .start t l;
+      uptime = λ t l.
+          ap (uptimeAsked t) (bench-after p h r)
+          ∙ rw (le-ltb (t .0) (lastStamp p h .0) l) (ap (λ (s : Stamp). Ticked (ticksBetween s t)) (unit .start t l));
     }
 
 bench-same : (p : PowerOn) (h : List Event) → Run p h → Same p (stateOf (λ h. unitAfter p h)) (stateOf (λ h. after p h .monitor)) h

@@ -9,6 +9,7 @@ use Rattle.codec.specs.declared.frame.Answer.the-variants.{Accepted}
 use Rattle.maintenance.specs.Settings.{accepted}
 use Rattle.maintenance.specs.Messages.{quiet as noReply}
 use Rattle.rules.specs.declared.time.Stamp.{Stamp}
+use Rattle.rules.specs.Times.{ticksBetween}
 use Rattle.rules.specs.Events.{Event, PowerOn, IsAccepted, stampOf, lastStamp, Run, acceptedOf}
 use Rattle.rules.specs.Rules.{woken, step}
 use Rattle.rules.specs.History.{storedAfter, lastStart, replyTo}
@@ -16,6 +17,7 @@ use Rattle.rules.specs.Demand.{Demand}
 use Rattle.rules.specs.Given.{on, ticks, givenReply}
 use Rattle.rules.specs.Promise.{Fresh, OnIdentifier, stateOf}
 use Rattle.monitor.specs.declared.bench.Bench.{Bench}
+use Rattle.monitor.specs.declared.bench.UptimeReading.the-variants.{Read as Ticked}
 use Rattle.monitor.specs.Bench.{answeredTo, poweredOn, uptimeAsked, benchAt, after}
 use Rattle.monitor.specs.Answers.{toldOutcome, toldPowerOn, toldUptime, eventConditions, powerOnConditions, uptimeConditions}
 
@@ -40,6 +42,8 @@ pub record Holds (p : PowerOn) (h : List Event) : Type 0 where
   -- the events that are accepted make a run, and the others change nothing
   pub run : Run p (acceptedOf p h)
   pub same : after p h ≡ after p (acceptedOf p h)
+  -- so the stored six are those worked out from what was accepted
+  pub stored : after p h .monitor .stored ≡ storedAfter p (acceptedOf p h)
   -- it is still the same unit
   pub serial : after p h .monitor .serial ≡ p .serial
   pub rating : after p h .monitor .rating ≡ p .rating
@@ -60,11 +64,12 @@ pub record RunsAreAccepted (p : PowerOn) : Type 0 where
   pub power-on : Run p [] ↔ poweredOn (p .at) (p .serial) (p .rating) (p .settings) .answer ≡ Accepted
   pub event : (e : Event) (h : List Event) → Run p h → Run p (e ∷ h) ↔ answeredTo e (after p h) .answer ≡ Accepted
 
--- after a run the stored six, the next reply and the last start are those worked out from the history
+-- after a run the stored six, the next reply, the last start and the uptime are those worked out from the history
 pub record WorkedOut (p : PowerOn) (h : List Event) : Type 0 where
   pub stored : after p h .monitor .stored ≡ storedAfter p h
   pub reply : (e : Event) → Run p (e ∷ h) → answeredTo e (after p h) .reply ≡ replyTo p h e
   pub start : (t : Stamp) → lastStamp p h .0 ≤ t .0 → woken t (after p h .monitor) .start ≡ lastStart p h t
+  pub uptime : (t : Stamp) → lastStamp p h .0 ≤ t .0 → uptimeAsked t (after p h) ≡ Ticked (ticksBetween (lastStart p h t) t)
 
 -- ---- the promise
 
