@@ -16,20 +16,12 @@ use Rattle.rules.specs.declared.time.Stamp.{Stamp}
 use Rattle.rules.specs.Events.{Event, frameEvent, resetEvent, PowerOn, stampOf, lastStamp}
 use Rattle.rules.specs.History.{commits, taking, storedAfter, inSession, lastWrite}
 use Rattle.rules.specs.Demand.{Reading, lookingBack, Opened, Stores, Changes, Demand}
-use Rattle.rules.proofs.Looking.{commits-only, stored-frame}
+use Rattle.rules.proofs.Looking.{value-taking, commits-only, stored-frame}
 use Rattle.rules.proofs.Starts.{last-start}
 use Rattle.rules.proofs.Sessions.{opened-session, opened-writes}
 use Rattle.rules.proofs.Opened.{session-opened}
 
 -- ---- settings, one by one
-
-pub value-taking : (k : Settings) (written : Setting → Option ℕ) (s : Setting) → valueOf (taking k written) s ≡ Option·getD (written s) (valueOf k s)
-value-taking k written ReceiveId = refl
-value-taking k written TransmitId = refl
-value-taking k written Speed = refl
-value-taking k written Voltage = refl
-value-taking k written WarningLevel = refl
-value-taking k written FaultLevel = refl
 
 -- six equal values are the same settings
 pub same-settings : (k n : Settings) → ((s : Setting) → valueOf k s ≡ valueOf n s) → k ≡ n

@@ -15,7 +15,7 @@ use Rattle.maintenance.specs.declared.setting.Setting.the-variants.{ReceiveId, 
 use Rattle.maintenance.specs.declared.setting.Settings.{Settings}
 use Rattle.maintenance.specs.declared.message.Message.{Message}
 use Rattle.maintenance.specs.declared.message.Message.the-variants.{Other, Unlock, Commit, Answer, SerialRequest, Read, Write}
-use Rattle.maintenance.specs.Settings.{legal, valueOf, withValue}
+use Rattle.maintenance.specs.Settings.{legal, withValue}
 use Rattle.maintenance.specs.Messages.{message, heardOn, isRight, ack, shown}
 use Rattle.rules.specs.declared.time.Stamp.{Stamp}
 use Rattle.rules.specs.declared.unit.Pending.{Pending}
@@ -28,8 +28,9 @@ use Rattle.rules.specs.Times.{later}
 use Rattle.rules.specs.Rules.{inPhase, sessionAt, goesOn, answered, refused, outside, inside, met, frameMet, woken, wasReset, step, unitAfter}
 use Rattle.rules.specs.Events.{Event, frameEvent, resetEvent, PowerOn, lastStamp, Run}
 use Rattle.rules.specs.Promise.{isOpen}
+use Rattle.rules.proofs.Looking.{value-taking}
 use Rattle.rules.proofs.Rules.{woken-later, reset-woken}
-use Rattle.rules.specs.History.{near, timelyUnlock, timelyAnswer, commits, writes, leavesOpen, leavesPending, leavesStart, newest, taking, storedAfter, inSession, pendingSince, lastStart, lastWrite, readable, replyToAnswer, replyOutside, replyInside, replyTo}
+use Rattle.rules.specs.History.{near, timelyUnlock, timelyAnswer, commits, writes, leavesOpen, leavesPending, leavesStart, newest, taking, storedAfter, inSession, pendingSince, lastStart, lastWrite, replyToAnswer, replyOutside, replyInside, replyTo}
 
 -- ---- limits of time, as the rules have them
 
@@ -200,16 +201,8 @@ module _ (p : PowerOn) (h : List Event) (at : Stamp) (storing : Bool) (f : Frame
   abbrev asked : Bool → Option Stamp → Monitor
   asked session pending = unitOf p (storedAfter p h) (lastStart p h at) session (lastHeard p h) (λ s. lastWrite p h s) pending
 
-  value-shown : (s : Setting) → valueOf (taking (storedAfter p h) (λ x. lastWrite p h x)) s ≡ readable p h s
-  value-shown ReceiveId = refl
-  value-shown TransmitId = refl
-  value-shown Speed = refl
-  value-shown Voltage = refl
-  value-shown WarningLevel = refl
-  value-shown FaultLevel = refl
-
   says-inside : (x : Message) → inside x (taking (storedAfter p h) (λ s. lastWrite p h s)) at storing (asked true none) .reply ≡ replyInside p h (storedAfter p h .transmit) storing x
-  says-inside (Read s) = ap (λ (v : ℕ). shown (storedAfter p h .transmit) s v) (value-shown s)
+  says-inside (Read s) = ap (λ (v : ℕ). shown (storedAfter p h .transmit) s v) (value-taking (storedAfter p h) (λ x. lastWrite p h x) s)
   says-inside (Write s v) = decided (legal (p .rating) s v) (λ l. rw l refl) (λ l. rw l refl)
   says-inside Commit = decided storing (λ e. rw e refl) (λ e. rw e refl)
   says-inside Unlock = refl

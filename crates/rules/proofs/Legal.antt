@@ -3,7 +3,7 @@ use Prim.Native.Nat.{ℕ}
 use mathlib.Core.Path.{_≡_, refl, sym, ap, subst, _∙_}
 use mathlib.Core.Bool.{Bool, true, cond, _&&_}
 use mathlib.Core.List.{List, [], _∷_}
-use mathlib.Core.Option.{Option, none, some, Option·getD, Option·none-ne-some, Option·some-injective}
+use mathlib.Core.Option.{Option, none, some, Option·getD, Option·some-injective}
 use lib.Dec.{leb, ltb, eqb}
 use borrow.Author.Tests.{eqb-true}
 use Rattle.words.proofs.Tests.{decided}
@@ -18,12 +18,9 @@ use Rattle.maintenance.proofs.Messages.{and-left, and-right}
 use Rattle.maintenance.proofs.Settings.{Parts, accepted-parts, same-code}
 use Rattle.rules.specs.Events.{Event, frameEvent, resetEvent, PowerOn, IsAccepted}
 use Rattle.rules.specs.History.{commits, writes, newest, taking, storedAfter, inSession, lastWrite}
-use Rattle.rules.proofs.Looking.{write-heard, write-unheard}
+use Rattle.rules.proofs.Looking.{nothing, write-heard, write-unheard}
 
 -- ---- what is stored is legal
-
-nothing : {X : Type 0} (v : ℕ) → _≡_ {A = Option ℕ} none (some v) → X
-nothing v e = absurd (Option·none-ne-some v e)
 
 -- a write is accepted only if it is legal
 writes-legal : (rating : ℕ) (s : Setting) (x : Message) (v : ℕ) → writes rating s x ≡ some v → legal rating s v ≡ true

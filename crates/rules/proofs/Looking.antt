@@ -1,10 +1,14 @@
 -- Looking back over one event more: what each question answers after a reset, a frame that was heard and one that was not. Assumes nothing.
-use mathlib.Core.Path.{_≡_, refl, sym}
+use Prim.Native.Nat.{ℕ}
+use mathlib.Core.Path.{_≡_, refl, sym, ap, _∙_}
 use mathlib.Core.Bool.{Bool, true, false, cond, _&&_}
 use mathlib.Core.List.{List, _∷_, _++_}
-use mathlib.Core.Option.{none}
+use mathlib.Core.Option.{Option, none, some, Option·getD, Option·none-ne-some}
 use Rattle.codec.specs.declared.frame.Frame.{Frame}
 use Rattle.maintenance.specs.declared.setting.Setting.{Setting}
+use Rattle.maintenance.specs.declared.setting.Setting.the-variants.{ReceiveId, TransmitId, Speed, Voltage, WarningLevel, FaultLevel}
+use Rattle.maintenance.specs.declared.setting.Settings.{Settings}
+use Rattle.maintenance.specs.Settings.{valueOf}
 use Rattle.maintenance.specs.declared.message.Message.{Message}
 use Rattle.maintenance.specs.declared.message.Message.the-variants.{Other, Unlock, Commit, Answer, SerialRequest, Read, Write}
 use Rattle.maintenance.specs.Messages.{message, heardOn}
@@ -16,23 +20,35 @@ use Rattle.rules.specs.Demand.{lookingBack, heardIn}
 
 -- ---- what a message is
 
+by-kind : {X : Type 0} (x : Message) → (x ≡ Unlock → X) → (x ≡ Answer → X) → (x ≡ Commit → X) → (answers x ≡ false → commits x ≡ false → X) → X
+by-kind Unlock u a c else = u refl
+by-kind Answer u a c else = a refl
+by-kind Commit u a c else = c refl
+by-kind (SerialRequest mux) u a c else = else refl refl
+by-kind (Read s) u a c else = else refl refl
+by-kind (Write s v) u a c else = else refl refl
+by-kind Other u a c else = else refl refl
+
 pub answers-only : (x : Message) → answers x ≡ true → x ≡ Answer
-answers-only Unlock e = false-true (sym e)
-answers-only Answer e = refl
-answers-only Commit e = false-true (sym e)
-answers-only (SerialRequest mux) e = false-true (sym e)
-answers-only (Read s) e = false-true (sym e)
-answers-only (Write s v) e = false-true (sym e)
-answers-only Other e = false-true (sym e)
+answers-only x e =
+    by-kind x (λ q. false-true (sym e ∙ ap answers q)) (λ q. q) (λ q. false-true (sym e ∙ ap answers q)) (λ a c. false-true (sym e ∙ a))
 
 pub commits-only : (x : Message) → commits x ≡ true → x ≡ Commit
-commits-only Unlock e = false-true (sym e)
-commits-only Answer e = false-true (sym e)
-commits-only Commit e = refl
-commits-only (SerialRequest mux) e = false-true (sym e)
-commits-only (Read s) e = false-true (sym e)
-commits-only (Write s v) e = false-true (sym e)
-commits-only Other e = false-true (sym e)
+commits-only x e =
+    by-kind x (λ q. false-true (sym e ∙ ap commits q)) (λ q. false-true (sym e ∙ ap commits q)) (λ q. q) (λ a c. false-true (sym e ∙ c))
+
+-- ---- what was written, or is pending, if anything
+
+pub nothing : {A X : Type 0} (a : A) → _≡_ {A = Option A} none (some a) → X
+nothing a e = absurd (Option·none-ne-some a e)
+
+pub value-taking : (k : Settings) (written : Setting → Option ℕ) (s : Setting) → valueOf (taking k written) s ≡ Option·getD (written s) (valueOf k s)
+value-taking k written ReceiveId = refl
+value-taking k written TransmitId = refl
+value-taking k written Speed = refl
+value-taking k written Voltage = refl
+value-taking k written WarningLevel = refl
+value-taking k written FaultLevel = refl
 
 -- ---- one event more
 

@@ -158,6 +158,10 @@ module _ (p : PowerOn) (r r′ : Reading) where
 
 -- ---- one reading
 
+-- what a setting takes of what was heard
+abbrev value : PowerOn → Setting → Settings → List Heard → ℕ
+value p x k l = Option·getD (lastAccepted (p .rating) x l) (valueOf k x)
+
 same-test : (b c : Bool) → (b ≡ true → c ≡ true) → (c ≡ true → b ≡ true) → b ≡ c
 same-test true c f g = sym (f refl)
 same-test false true f g = g refl
@@ -190,12 +194,11 @@ module _ (p : PowerOn) (r r′ : Reading) (d : Demand p r) (d′ : Demand p r′
       by-store p r h (d .sessions h (run .1 .1)) e (run .1 .0)
       (λ w.
       let w′ = stores-same p r r′ h (run .1 .1) s b e w in
-      let value : Setting → Settings → List Heard → ℕ = λ x k l. Option·getD (lastAccepted (p .rating) x l) (valueOf k x) in
       same-settings (r .stored (e ∷ h)) (r′ .stored (e ∷ h))
       (λ x.
       c .takes w x
-      ∙ (ap (λ (l : List Heard). value x (r .stored h) l) (since-same p r r′ h (run .1 .1) b (w .session .answer))
-      ∙ (ap (λ (k : Settings). value x k (heardSince r′ h (w′ .session .answer))) (s .stored)
+      ∙ (ap (λ (l : List Heard). value p x (r .stored h) l) (since-same p r r′ h (run .1 .1) b (w .session .answer))
+      ∙ (ap (λ (k : Settings). value p x k (heardSince r′ h (w′ .session .answer))) (s .stored)
       ∙ sym (c′ .takes w′ x)))))
       (λ none.
       c .stays none
@@ -227,14 +230,13 @@ module _ (p : PowerOn) (r r′ : Reading) (d : Demand p r) (same : (h : List Eve
       let b = all-before h (run .1 .1) in
       let there : Stores p r h e → Stores p r′ h e = stores-same p r r′ h (run .1 .1) s b e in
       let back : Stores p r′ h e → Stores p r h e = stores-same p r′ r h (run .1 .1) (flip p r r′ h s) (flip-before p r r′ h b) e in
-      let value : Setting → Settings → List Heard → ℕ = λ x k l. Option·getD (lastAccepted (p .rating) x l) (valueOf k x) in
       record {
         only = λ x q. there (c .only x (λ u. q (ap (λ (k : Settings). valueOf k x) (sym (n .stored)) ∙ (u ∙ ap (λ (k : Settings). valueOf k x) (s .stored)))));
         takes = λ w x.
             ap (λ (k : Settings). valueOf k x) (sym (n .stored))
             ∙ (c .takes (back w) x
-            ∙ (ap (λ (l : List Heard). value x (r .stored h) l) (sym (since-same p r′ r h (run .1 .1) (flip-before p r r′ h b) (w .session .answer)))
-            ∙ ap (λ (k : Settings). value x k (heardSince r′ h (w .session .answer))) (s .stored)));
+            ∙ (ap (λ (l : List Heard). value p x (r .stored h) l) (sym (since-same p r′ r h (run .1 .1) (flip-before p r r′ h b) (w .session .answer)))
+            ∙ ap (λ (k : Settings). value p x k (heardSince r′ h (w .session .answer))) (s .stored)));
         stays = λ none. sym (n .stored) ∙ (c .stays (λ w. none (there w)) ∙ s .stored);
       }
 

@@ -3,7 +3,7 @@ use Prim.Native.Nat.{ℕ, _+_, _≤_}
 use mathlib.Core.Path.{_≡_, refl, sym, ap, subst, _∙_}
 use mathlib.Core.Bool.{Bool, true, false, _&&_}
 use mathlib.Core.List.{List, [], _∷_, _++_}
-use mathlib.Core.Option.{Option, none, some, Option·none-ne-some, Option·some-injective}
+use mathlib.Core.Option.{Option, none, some, Option·some-injective}
 use lib.Dec.{leb}
 use borrow.Author.Tests.{leb-true, not-true}
 use Rattle.words.proofs.Tests.{decided, false-true}
@@ -16,7 +16,7 @@ use Rattle.rules.specs.declared.time.Stamp.{Stamp}
 use Rattle.rules.specs.Events.{Event, frameEvent, resetEvent, PowerOn}
 use Rattle.rules.specs.History.{near, timelyUnlock, timelyAnswer, unlocks, answers, commits, leavesOpen, leavesPending, storedAfter, inSession, pendingSince, lastStart}
 use Rattle.rules.specs.Demand.{lookingBack, Heard, heardIn, No, Close, Past, heardSince, Unlocked, Opened}
-use Rattle.rules.proofs.Looking.{answers-only, session-unheard, pending-unheard, session-heard, pending-heard, unheard-since, heard-since}
+use Rattle.rules.proofs.Looking.{nothing, answers-only, session-unheard, pending-unheard, session-heard, pending-heard, unheard-since, heard-since}
 
 -- ---- one event more
 
@@ -50,15 +50,12 @@ module _ (p : PowerOn) (h : List Event) (s : Stamp) (works : Bool) (g : Frame) w
 
 -- ---- what is pending was unlocked
 
-nothing-pending : {X : Type 0} (u : Stamp) → _≡_ {A = Option Stamp} none (some u) → X
-nothing-pending u e = absurd (Option·none-ne-some u e)
-
 -- what a heard message leaves pending: its own challenge, or what was pending
 left-pending : {X : Type 0} (o : Bool) (x : Message) (timely : Bool) (at : Stamp) (before : Option Stamp) (u : Stamp) → leavesPending o x timely at before ≡ some u → (o ≡ false → x ≡ Unlock → timely ≡ true → at ≡ u → X) → (unlocks x ≡ false → answers x ≡ false → before ≡ some u → X) → X
-left-pending true x timely at before u e own old = nothing-pending u e
+left-pending true x timely at before u e own old = nothing u e
 left-pending false Unlock true at before u e own old = own refl refl refl (Option·some-injective at u e)
-left-pending false Unlock false at before u e own old = nothing-pending u e
-left-pending false Answer timely at before u e own old = nothing-pending u e
+left-pending false Unlock false at before u e own old = nothing u e
+left-pending false Answer timely at before u e own old = nothing u e
 left-pending false Commit timely at before u e own old = old refl refl e
 left-pending false (SerialRequest mux) timely at before u e own old = old refl refl e
 left-pending false (Read s) timely at before u e own old = old refl refl e
@@ -92,8 +89,8 @@ module _ (p : PowerOn) (h : List Event) (s : Stamp) (works : Bool) (g : Frame) (
 
 pub pending-unlocked : (p : PowerOn) (h : List Event) (u : Stamp) → pendingSince p h ≡ some u → Pends p h u
 unfolding storedAfter
-pending-unlocked p [] u e = nothing-pending u e
-pending-unlocked p (resetEvent at ∷ h) u e = nothing-pending u e
+pending-unlocked p [] u e = nothing u e
+pending-unlocked p (resetEvent at ∷ h) u e = nothing u e
 pending-unlocked p (frameEvent at storing f ∷ h) u e =
     decided (heardOn (storedAfter p h) f)
     (λ x.
