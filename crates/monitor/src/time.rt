@@ -1,4 +1,4 @@
-// Two units of time, kept apart: milliseconds of the bench and ticks of the uptime.
+// Stamps compared, and the ticks between two of them.
 ghost use mathlib.Core.Path.{_≡_};
 ghost use Rattle.rules.specs.Times.{pastLimit, earlier, ticksBetween};
 use rules::time::Stamp;
