@@ -1,0 +1,3 @@
+-- Laws of text: putting one text after another, and the figures of numbers.
+pub mod Put
+pub mod Figures

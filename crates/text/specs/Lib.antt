@@ -1,0 +1,3 @@
+-- What the text crate speaks of: figures, and text in a lent buffer.
+pub mod Figures
+pub mod Put
