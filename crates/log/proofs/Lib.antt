@@ -1,0 +1,4 @@
+-- Laws of logs, and what the log crate promises, proved.
+pub mod Parts
+pub mod Records
+pub mod Checks
