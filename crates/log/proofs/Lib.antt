@@ -2,3 +2,4 @@
 pub mod Parts
 pub mod Records
 pub mod Checks
+pub mod Runs
