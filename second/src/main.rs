@@ -6,6 +6,21 @@ mod codec_inputs;
 mod history;
 #[cfg(test)]
 mod history_tests;
+mod listing;
+mod log;
+mod log_cases;
+mod log_catalogue;
+#[cfg(test)]
+mod log_coverage;
+mod log_damage;
+mod log_inputs;
+mod log_lengths;
+mod log_parts;
+mod log_runs;
+mod log_scripts;
+mod log_shapes;
+#[cfg(test)]
+mod log_tests;
 mod monitor;
 mod monitor_cases;
 #[cfg(test)]
@@ -21,13 +36,18 @@ mod random;
 mod refusal;
 
 use std::io::{self, BufWriter, Read, Write};
+use std::path::Path;
 use std::process::ExitCode;
 
 const USAGE: &str = "usage: second codec-inputs SEED COUNT   write COUNT records of codec cases
        second codec-answers             answer the codec cases on standard input
        second monitor-inputs SEED RUNS  write RUNS runs of monitor cases
        second monitor-answers           answer the monitor cases on standard input
-       second monitor-histories         compare two readings of the cases on standard input";
+       second monitor-histories         compare two readings of the cases on standard input
+       second log-inputs SEED COUNT     write COUNT log cases
+       second log-answers               answer the log cases on standard input
+       second log-files DIR             write the log cases on standard input as files
+       second replay                    list the log on standard input";
 
 /// What the command line asks for.
 enum Command {
@@ -36,6 +56,10 @@ enum Command {
     MonitorInputs { seed: u64, runs: u64 },
     MonitorAnswers,
     MonitorHistories,
+    LogInputs { seed: u64, count: u64 },
+    LogAnswers,
+    LogFiles { directory: String },
+    Replay,
 }
 
 fn command(arguments: &[String]) -> Option<Command> {
@@ -50,6 +74,12 @@ fn command(arguments: &[String]) -> Option<Command> {
         }
         ["monitor-answers"] => Some(Command::MonitorAnswers),
         ["monitor-histories"] => Some(Command::MonitorHistories),
+        ["log-inputs", seed, count] => {
+            Some(Command::LogInputs { seed: seed.parse().ok()?, count: count.parse().ok()? })
+        }
+        ["log-answers"] => Some(Command::LogAnswers),
+        ["log-files", directory] => Some(Command::LogFiles { directory: directory.to_string() }),
+        ["replay"] => Some(Command::Replay),
         _ => None,
     }
 }
@@ -72,6 +102,15 @@ fn run(command: &Command) -> io::Result<bool> {
         Command::MonitorAnswers => monitor_cases::answer_all(&cases()?, &mut out)?,
         Command::MonitorHistories => {
             same = monitor_histories::compare_all(&cases()?, &mut out)?;
+        }
+        Command::LogInputs { seed, count } => log_inputs::write_all(*seed, *count, &mut out)?,
+        Command::LogAnswers => log_cases::answer_all(&cases()?, &mut out)?,
+        Command::LogFiles { directory } => {
+            log_cases::write_files(&cases()?, Path::new(directory))?;
+        }
+        Command::Replay => {
+            let bytes = listing::input(io::stdin().lock())?;
+            out.write_all(listing::replay(&bytes).as_bytes())?;
         }
     }
     out.flush()?;

@@ -26,7 +26,7 @@ const AT_THE_END: usize = 25;
 
 /// "power-on at 0, serial 00 01 .. 0F, rating 1000, defaults (0A100101,
 /// 0A100100, 500, 0, 500, 100)"
-const MARKED_UNIT: Unit = Unit {
+pub const MARKED_UNIT: Unit = Unit {
     serial: [0, 1, 2, 3, 4, 5, 6, 7, 8, 9, 10, 11, 12, 13, 14, 15],
     rating: 1_000,
     settings: Settings {
@@ -78,7 +78,7 @@ fn marked_start(then: &[Record]) -> Vec<Record> {
 }
 
 /// What follows the power-on in the runs of P1 to P10.
-fn marked_runs() -> [Vec<Record>; 10] {
+pub fn marked_runs() -> [Vec<Record>; 10] {
     let answered = marked_frame(1_500, true, &MARKED_ANSWER);
     [
         marked_session(3_500, true),
@@ -422,6 +422,12 @@ fn around_power_on(host: &mut Host) {
     }
     host.ask_at(start);
     host.send_at(start, &UNLOCK);
+}
+
+/// A unit whose power-on is accepted, with anything special about it.
+pub fn any_unit(random: &mut Random) -> Unit {
+    let special = random.pick(&SPECIALS);
+    unit(random, special)
 }
 
 /// A unit whose power-on is accepted.

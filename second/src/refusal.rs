@@ -23,6 +23,13 @@ pub enum Refusal {
     Early = 7,
     /// "power-on settings, rating or log block not legal"
     NotLegal = 8,
+    /// "log length or trailer wrong"
+    LogTrailer = 9,
+    /// "log record wrong"
+    LogRecord = 10,
+    /// "the buffer lent to the sheet writer is shorter than the text"; so it is
+    /// for the buffer lent for a listing.
+    NoRoom = 12,
 }
 
 impl fmt::Display for Refusal {

@@ -9,3 +9,4 @@ pub mod block;
 pub mod check;
 pub mod layout;
 pub mod record;
+pub mod view;

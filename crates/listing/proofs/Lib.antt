@@ -1,0 +1,3 @@
+-- Laws of listings, and what the listing crate promises, proved.
+pub mod Spaced
+pub mod Replaying
