@@ -1,3 +1,5 @@
 -- Laws of listings, and what the listing crate promises, proved.
 pub mod Spaced
 pub mod Replaying
+pub mod Bounds
+pub mod Answers

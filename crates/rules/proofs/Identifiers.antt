@@ -1,10 +1,10 @@
--- What the history replies is on the stored transmit identifier. Assumes nothing.
+-- What the history replies is on the stored transmit identifier, and no longer than a frame is. Assumes nothing.
 use Prim.Native.Nat.{ℕ, _≤_}
 use mathlib.Core.Path.{_≡_, refl, sym}
 use mathlib.Core.Bool.{Bool, true, false, cond}
 use mathlib.Core.List.{List}
 use mathlib.Core.Option.{Option, none, some}
-use lib.Dec.{leb}
+use lib.Dec.{leb, lit≤}
 use borrow.Author.Tests.{leb-true, le-ltb}
 use native.Mathlib.Omega.{arith}
 use Rattle.words.proofs.Tests.{false-true}
@@ -29,7 +29,7 @@ silent-on i s = false-true (sym s)
 serial-on : (i : ℕ) (serial : List ℕ) (mux : ℕ) → leb i 0x1FFFFFFF ≡ true → 0x08 ≤ mux → mux ≤ 0x0B → OnIdentifier i (serialReport i serial mux)
 unfolding buildReport
 serial-on i serial mux h low high s =
-    rw (le-ltb 0x1FFFFFFF i (leb-true i 0x1FFFFFFF h), le-ltb mux 0x01 (omega arith), le-ltb 0x0B mux high) (refl, refl)
+    rw (le-ltb 0x1FFFFFFF i (leb-true i 0x1FFFFFFF h), le-ltb mux 0x01 (omega arith), le-ltb 0x0B mux high) (refl, (refl, lit≤ tt))
 
 -- one of two replies
 either-on : (i : ℕ) (b : Bool) (x y : Reply) → OnIdentifier i x → OnIdentifier i y → OnIdentifier i (cond b x y)
@@ -38,12 +38,12 @@ either-on i false x y p q = q
 
 answer-on : (i : ℕ) (pending : Option Stamp) (right : Bool) → OnIdentifier i (replyToAnswer i pending right)
 answer-on i none right = silent-on i
-answer-on i (some since) right = either-on i right (ack i) (nak i) (λ s. (refl, refl)) (λ s. (refl, refl))
+answer-on i (some since) right = either-on i right (ack i) (nak i) (λ s. (refl, (refl, lit≤ tt))) (λ s. (refl, (refl, lit≤ tt)))
 
 module _ (p : PowerOn) (h : List Event) (i : ℕ) where
   outside-on : (x : Message) → Listed x → leb i 0x1FFFFFFF ≡ true → (at : Stamp) (f : Frame) → OnIdentifier i (replyOutside p h i at f x)
   outside-on Unlock l q at f =
-      either-on i (timelyUnlock (lastStart p h at) at) (challenged i (p .serial)) (nak i) (λ s. (refl, refl)) (λ s. (refl, refl))
+      either-on i (timelyUnlock (lastStart p h at) at) (challenged i (p .serial)) (nak i) (λ s. (refl, (refl, lit≤ tt))) (λ s. (refl, (refl, lit≤ tt)))
   outside-on Answered l q at f = answer-on i (pendingSince p h) (timelyAnswer (p .serial) f (pendingSince p h) at)
   outside-on (SerialRequest mux) l q at f = serial-on i (p .serial) mux q (l .0) (l .1)
   outside-on Commit l q at f = silent-on i
@@ -52,13 +52,13 @@ module _ (p : PowerOn) (h : List Event) (i : ℕ) where
   outside-on Other l q at f = silent-on i
 
   inside-on : (x : Message) (storing : Bool) → OnIdentifier i (replyInside p h i storing x)
-  inside-on (Read s) storing = λ t. (refl, refl)
-  inside-on (Write s v) storing = either-on i (legal (p .rating) s v) (ack i) (nak i) (λ t. (refl, refl)) (λ t. (refl, refl))
-  inside-on Commit storing = either-on i storing (ack i) (nak i) (λ t. (refl, refl)) (λ t. (refl, refl))
-  inside-on Unlock storing = λ t. (refl, refl)
-  inside-on Answered storing = λ t. (refl, refl)
-  inside-on (SerialRequest mux) storing = λ t. (refl, refl)
-  inside-on Other storing = λ t. (refl, refl)
+  inside-on (Read s) storing = λ t. (refl, (refl, lit≤ tt))
+  inside-on (Write s v) storing = either-on i (legal (p .rating) s v) (ack i) (nak i) (λ t. (refl, (refl, lit≤ tt))) (λ t. (refl, (refl, lit≤ tt)))
+  inside-on Commit storing = either-on i storing (ack i) (nak i) (λ t. (refl, (refl, lit≤ tt))) (λ t. (refl, (refl, lit≤ tt)))
+  inside-on Unlock storing = λ t. (refl, (refl, lit≤ tt))
+  inside-on Answered storing = λ t. (refl, (refl, lit≤ tt))
+  inside-on (SerialRequest mux) storing = λ t. (refl, (refl, lit≤ tt))
+  inside-on Other storing = λ t. (refl, (refl, lit≤ tt))
 
 pub reply-on : (p : PowerOn) (h : List Event) (e : Event) → leb (storedAfter p h .transmit) 0x1FFFFFFF ≡ true → OnIdentifier (storedAfter p h .transmit) (replyTo p h e)
 reply-on p h (resetEvent at) q = silent-on (storedAfter p h .transmit)

@@ -73,9 +73,9 @@ pub record Demand3 (p : PowerOn) : Type 0 where
   pub history : Demand p (lookingBack p)
   pub one : (r r′ : Reading) → Demand p r → Demand p r′ → (h : List Event) → Run p h → r .stored h ≡ r′ .stored h
 
--- a reply is an extended frame on the identifier
+-- a reply is an extended frame on the identifier, of eight bytes at most
 abbrev pub OnIdentifier : ℕ → Reply → Type 0
-OnIdentifier identifier r = r .sent ≡ true → (r .frame .extended ≡ true) × (r .frame .identifier ≡ identifier)
+OnIdentifier identifier r = r .sent ≡ true → (r .frame .extended ≡ true) × ((r .frame .identifier ≡ identifier) × (r .frame .length ≤ 8))
 
 -- what the history says is legal, and said on the stored identifier
 pub record Sound (p : PowerOn) (h : List Event) : Type 0 where

@@ -2,11 +2,13 @@
 use Prim.Native.Nat.{ℕ, zero, suc, _+_, _-_, _/_, _%_, _≤_, _<_, _^_}
 use native.Mathlib.Nat.{pow-suc}
 use native.Mathlib.Omega.{arith}
-use mathlib.Core.Path.{_≡_, refl, ap}
+use mathlib.Core.Path.{_≡_, refl, ap, _∙_}
 use mathlib.Core.Bool.{cond}
 use mathlib.Core.List.{List, [], _∷_, _++_}
-use lib.Dec.{ltb}
+use lib.Dec.{ltb, lit≤}
+use lib.ListN.{length, length-append}
 use borrow.Author.Tests.{lt-ltb, le-ltb}
+use Rattle.words.proofs.Tests.{decided}
 use Rattle.text.specs.Figures.{decimalUpTo, decimal, hexadecimal, figure}
 
 pub one-figure : (n : ℕ) → n < 10 → decimal n ≡ (48 + n % 10) ∷ []
@@ -31,3 +33,38 @@ pub more-hexadecimal : (n w : ℕ) → (w ≡ 0 → ⊥) → hexadecimal w n ≡
 unfolding hexadecimal
 more-hexadecimal n zero h = absurd (h refl)
 more-hexadecimal n (suc w) h = ap (λ (k : ℕ). hexadecimal k (n / 16) ++ (figure (n % 16) ∷ [])) (let e : w ≡ suc w - 1 = omega arith in e)
+
+-- ---- how many figures
+
+one-more : (t : List ℕ) (b : ℕ) → length (t ++ (b ∷ [])) ≡ length t + 1
+one-more t b = length-append t (b ∷ [])
+
+pub hexadecimal-length : (w n : ℕ) → length (hexadecimal w n) ≡ w
+unfolding hexadecimal
+hexadecimal-length zero n = refl
+hexadecimal-length (suc w) n =
+    one-more (hexadecimal w (n / 16)) (figure (n % 16)) ∙ ap (λ (k : ℕ). k + 1) (hexadecimal-length w (n / 16)) ∙ (let e : w + 1 ≡ suc w = omega arith in e)
+
+ten-at-most : (k n : ℕ) → length (decimalUpTo k n) ≤ suc k
+unfolding decimalUpTo
+ten-at-most zero n = lit≤ tt
+ten-at-most (suc k) n =
+    decided (ltb n 10)
+    (λ t. rw t (omega arith))
+    (λ t. rw t (let l = one-more (decimalUpTo k (n / 10)) (48 + n % 10) in let r = ten-at-most k (n / 10) in omega (arith, l, r)))
+
+pub decimal-length : (n : ℕ) → length (decimal n) ≤ 10
+decimal-length n = ten-at-most 9 n
+
+-- a number below a power of ten has no more figures than the power says
+few-figures : (k j n : ℕ) → n < 10 ^ suc j → length (decimalUpTo k n) ≤ suc j
+unfolding decimalUpTo
+few-figures zero j n h = omega arith
+few-figures (suc k) zero n h = rw (lt-ltb n 10 h) (lit≤ tt)
+few-figures (suc k) (suc j) n h =
+    decided (ltb n 10)
+    (λ t. rw t (omega arith))
+    (λ t. rw t (let l = one-more (decimalUpTo k (n / 10)) (48 + n % 10) in let r = few-figures k j (n / 10) (omega (arith, pow-suc 10 (suc j))) in omega (arith, l, r)))
+
+pub decimal-below : (j n : ℕ) → n < 10 ^ suc j → length (decimal n) ≤ suc j
+decimal-below j n h = few-figures 9 j n h
