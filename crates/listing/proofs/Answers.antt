@@ -2,26 +2,27 @@
 use Prim.Native.Nat.{ℕ, _+_, _*_, _≤_, _<_, _^_}
 use native.Mathlib.Nat.{zero-add}
 use native.Mathlib.Omega.{arith}
-use mathlib.Core.Path.{_≡_, refl, sym, ap, _∙_}
+use mathlib.Core.Path.{_≡_, refl, sym, ap, subst, _∙_}
 use mathlib.Core.Bool.{Bool, true, false, cond}
 use mathlib.Core.List.{List}
 use lib.Dec.{ltb}
 use lib.ListN.{length, getD}
 use lib.Seq.{sets}
 use borrow.Author.Tests.{le-ltb}
+use Rattle.words.proofs.Tests.{false-true}
 use Rattle.refusal.specs.declared.Refusal.{Refusal}
 use Rattle.refusal.specs.declared.Refusal.the-variants.{ShortBuffer}
 use Rattle.codec.specs.declared.frame.Answer.{Answer}
 use Rattle.codec.specs.declared.frame.Answer.the-variants.{Accepted, Refused}
 use Rattle.text.specs.Put.{Put, place, lastPlace}
-use Rattle.text.proofs.Put.{place-within}
+use Rattle.text.proofs.Put.{place-within, put-as}
 use Rattle.log.specs.Layout.{countOf}
 use Rattle.log.specs.Check.{checked}
 use Rattle.log.proofs.Parts.{laid-out}
 use Rattle.log.proofs.Runs.{sound}
 use Rattle.listing.specs.declared.listing.Listed.{Listed}
 use Rattle.listing.specs.declared.listing.Listed.the-variants.{Text, Refused as NotListed}
-use Rattle.listing.specs.Listing.{listingOf, isShort, answerBy, heldBy, ListingAnswered}
+use Rattle.listing.specs.Listing.{listingOf, isShort, answerBy, heldBy, ListingAnswered, refusedLine, outputBy, outputOf}
 use Rattle.listing.proofs.Bounds.{listing-length}
 
 -- ---- lengths
@@ -56,3 +57,58 @@ listed s held after r bytes a t p =
       answered = ap Text (p .goes-on ∙ ap place (zero-add (length (listingOf s))) ∙ whole-length s bytes a) ∙ sym (ap (λ (x : Answer). answerBy x s (length held)) a ∙ ap (λ (b : Bool). cond b (NotListed ShortBuffer) (Text (length (listingOf s)))) t);
       holds = p .holds ∙ sym (ap (λ (x : Answer). heldBy x s held) a ∙ ap (λ (b : Bool). cond b held (sets held 0 (listingOf s))) t);
     }
+
+-- ---- an answer that is had
+
+abbrev isText : Listed → Bool
+isText (Text n) = true
+isText (NotListed why) = false
+
+abbrev sizeOf : Listed → ℕ
+sizeOf (Text n) = n
+sizeOf (NotListed why) = 0
+
+-- of an accepted log: 12 or the text
+accepted-text : (s d e : List ℕ) (n : ℕ) (short : Bool) → isShort s (length d) ≡ short → checked s ≡ Accepted → ListingAnswered s d (Text n) e → (n ≡ length (listingOf s)) × (e ≡ sets d 0 (listingOf s))
+accepted-text s d e n true t a x =
+    false-true (ap isText (x .answered ∙ ap (λ (y : Answer). answerBy y s (length d)) a ∙ ap (λ (b : Bool). cond b (NotListed ShortBuffer) (Text (length (listingOf s)))) t))
+accepted-text s d e n false t a x =
+    (
+      ap sizeOf (x .answered ∙ ap (λ (y : Answer). answerBy y s (length d)) a ∙ ap (λ (b : Bool). cond b (NotListed ShortBuffer) (Text (length (listingOf s)))) t),
+      x .holds ∙ ap (λ (y : Answer). heldBy y s d) a ∙ ap (λ (b : Bool). cond b d (sets d 0 (listingOf s))) t,
+    )
+
+by-answer-text : (s d e : List ℕ) (n : ℕ) (a : Answer) → checked s ≡ a → ListingAnswered s d (Text n) e → checked s ≡ Accepted
+by-answer-text s d e n Accepted q x = q
+by-answer-text s d e n (Refused why) q x = false-true (ap isText (x .answered ∙ ap (λ (y : Answer). answerBy y s (length d)) q))
+
+-- a text that was answered was put
+pub text-put : (s d e : List ℕ) (n : ℕ) → ((i : ℕ) → getD s i 0 < 256) → ListingAnswered s d (Text n) e → Put d 0 (listingOf s) n e
+text-put s d e n bytes x =
+    let a = by-answer-text s d e n (checked s) refl x in
+    let both = accepted-text s d e n (isShort s (length d)) refl a x in
+    record { goes-on = both .0 ∙ sym (ap place (zero-add (length (listingOf s))) ∙ whole-length s bytes a); holds = both .1 }
+
+short-same : (s d e : List ℕ) (why : Refusal) (short : Bool) → isShort s (length d) ≡ short → checked s ≡ Accepted → ListingAnswered s d (NotListed why) e → e ≡ d
+short-same s d e why true t a x = x .holds ∙ ap (λ (y : Answer). heldBy y s d) a ∙ ap (λ (b : Bool). cond b d (sets d 0 (listingOf s))) t
+short-same s d e why false t a x =
+    false-true (sym (ap isText (x .answered ∙ ap (λ (y : Answer). answerBy y s (length d)) a ∙ ap (λ (b : Bool). cond b (NotListed ShortBuffer) (Text (length (listingOf s)))) t)))
+
+by-answer-same : (s d e : List ℕ) (why : Refusal) (a : Answer) → checked s ≡ a → ListingAnswered s d (NotListed why) e → e ≡ d
+by-answer-same s d e why Accepted q x = short-same s d e why (isShort s (length d)) refl q x
+by-answer-same s d e why (Refused w) q x = x .holds ∙ ap (λ (y : Answer). heldBy y s d) q
+
+-- a refusal leaves the buffer as it came
+pub refused-same : (s d e : List ℕ) (why : Refusal) → ListingAnswered s d (NotListed why) e → e ≡ d
+refused-same s d e why x = by-answer-same s d e why (checked s) refl x
+
+-- ---- what the program writes
+
+pub output-text : (s d e : List ℕ) (l : Listed) (n : ℕ) → ((i : ℕ) → getD s i 0 < 256) → l ≡ Text n → ListingAnswered s d l e → Put d 0 (outputOf s (length d)) n e
+output-text s d e l n bytes q x =
+    put-as (ap (λ (y : Listed). outputBy y s) (sym q ∙ x .answered)) (text-put s d e n bytes (subst (λ (y : Listed). ListingAnswered s d y e) q x))
+
+pub output-refused : (s d e f : List ℕ) (l : Listed) (why : Refusal) (r : ℕ) → l ≡ NotListed why → ListingAnswered s d l e → Put e 0 (refusedLine why) r f → Put d 0 (outputOf s (length d)) r f
+output-refused s d e f l why r q x p =
+    put-as (ap (λ (y : Listed). outputBy y s) (sym q ∙ x .answered))
+    (subst (λ (b : List ℕ). Put b 0 (refusedLine why) r f) (refused-same s d e why (subst (λ (y : Listed). ListingAnswered s d y e) q x)) p)
