@@ -72,11 +72,10 @@ sizeOf (NotListed why) = 0
 accepted-text : (s d e : List ℕ) (n : ℕ) (short : Bool) → isShort s (length d) ≡ short → checked s ≡ Accepted → ListingAnswered s d (Text n) e → (n ≡ length (listingOf s)) × (e ≡ sets d 0 (listingOf s))
 accepted-text s d e n true t a x =
     false-true (ap isText (x .answered ∙ ap (λ (y : Answer). answerBy y s (length d)) a ∙ ap (λ (b : Bool). cond b (NotListed ShortBuffer) (Text (length (listingOf s)))) t))
-accepted-text s d e n false t a x =
-    (
-      ap sizeOf (x .answered ∙ ap (λ (y : Answer). answerBy y s (length d)) a ∙ ap (λ (b : Bool). cond b (NotListed ShortBuffer) (Text (length (listingOf s)))) t),
-      x .holds ∙ ap (λ (y : Answer). heldBy y s d) a ∙ ap (λ (b : Bool). cond b d (sets d 0 (listingOf s))) t,
-    )
+accepted-text s d e n false t a x = (
+  ap sizeOf (x .answered ∙ ap (λ (y : Answer). answerBy y s (length d)) a ∙ ap (λ (b : Bool). cond b (NotListed ShortBuffer) (Text (length (listingOf s)))) t),
+  x .holds ∙ ap (λ (y : Answer). heldBy y s d) a ∙ ap (λ (b : Bool). cond b d (sets d 0 (listingOf s))) t,
+)
 
 by-answer-text : (s d e : List ℕ) (n : ℕ) (a : Answer) → checked s ≡ a → ListingAnswered s d (Text n) e → checked s ≡ Accepted
 by-answer-text s d e n Accepted q x = q

@@ -11,6 +11,15 @@ pub fn text(s: &[u8]) {
     io::write_all(1, s);
 }
 
+// The first bytes of a text, and all of it if there are no more.
+pub fn first(s: &[u8], n: usize) {
+    if n <= s.len() {
+        text(&s[..n]);
+    } else {
+        text(s);
+    }
+}
+
 // The last hexadecimal digit of a number.
 pub fn hex_digit(n: u8) -> u8
     ensures { λ r. ⌜ r ≡ hexDigit (n % 16) ⌝ }
