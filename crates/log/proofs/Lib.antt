@@ -3,3 +3,5 @@ pub mod Parts
 pub mod Records
 pub mod Checks
 pub mod Runs
+pub mod Spelled
+pub mod Blocks

@@ -3,3 +3,4 @@ pub mod Layout
 pub mod Block
 pub mod Record
 pub mod Check
+pub mod Written
