@@ -5,3 +5,4 @@ pub mod Checks
 pub mod Runs
 pub mod Spelled
 pub mod Blocks
+pub mod Logs
