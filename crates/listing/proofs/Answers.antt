@@ -1,11 +1,10 @@
 -- The answer and the buffer, for every answer of the check. Assumes nothing.
-use Prim.Native.Nat.{ℕ, _+_, _*_, _≤_, _<_, _^_}
+use Prim.Native.Nat.{ℕ, _+_, _*_, _≤_, _<_}
 use native.Mathlib.Nat.{zero-add}
 use native.Mathlib.Omega.{arith}
 use mathlib.Core.Path.{_≡_, refl, sym, ap, subst, _∙_}
 use mathlib.Core.Bool.{Bool, true, false, cond}
 use mathlib.Core.List.{List}
-use lib.Dec.{ltb}
 use lib.ListN.{length, getD}
 use lib.Seq.{sets}
 use borrow.Author.Tests.{le-ltb}
@@ -14,7 +13,7 @@ use Rattle.refusal.specs.declared.Refusal.{Refusal}
 use Rattle.refusal.specs.declared.Refusal.the-variants.{ShortBuffer}
 use Rattle.codec.specs.declared.frame.Answer.{Answer}
 use Rattle.codec.specs.declared.frame.Answer.the-variants.{Accepted, Refused}
-use Rattle.text.specs.Put.{Put, place, lastPlace}
+use Rattle.text.specs.Put.{Put, place}
 use Rattle.text.proofs.Put.{place-within, put-as}
 use Rattle.log.specs.Layout.{countOf}
 use Rattle.log.specs.Check.{checked}
@@ -68,25 +67,32 @@ abbrev sizeOf : Listed → ℕ
 sizeOf (Text n) = n
 sizeOf (NotListed why) = 0
 
--- of an accepted log: 12 or the text
-accepted-text : (s d e : List ℕ) (n : ℕ) (short : Bool) → isShort s (length d) ≡ short → checked s ≡ Accepted → ListingAnswered s d (Text n) e → (n ≡ length (listingOf s)) × (e ≡ sets d 0 (listingOf s))
-accepted-text s d e n true t a x =
-    false-true (ap isText (x .answered ∙ ap (λ (y : Answer). answerBy y s (length d)) a ∙ ap (λ (b : Bool). cond b (NotListed ShortBuffer) (Text (length (listingOf s)))) t))
-accepted-text s d e n false t a x = (
-  ap sizeOf (x .answered ∙ ap (λ (y : Answer). answerBy y s (length d)) a ∙ ap (λ (b : Bool). cond b (NotListed ShortBuffer) (Text (length (listingOf s)))) t),
-  x .holds ∙ ap (λ (y : Answer). heldBy y s d) a ∙ ap (λ (b : Bool). cond b d (sets d 0 (listingOf s))) t,
-)
-
 by-answer-text : (s d e : List ℕ) (n : ℕ) (a : Answer) → checked s ≡ a → ListingAnswered s d (Text n) e → checked s ≡ Accepted
 by-answer-text s d e n Accepted q x = q
 by-answer-text s d e n (Refused why) q x = false-true (ap isText (x .answered ∙ ap (λ (y : Answer). answerBy y s (length d)) q))
 
+not-short : (s d e : List ℕ) (n : ℕ) (short : Bool) → isShort s (length d) ≡ short → checked s ≡ Accepted → ListingAnswered s d (Text n) e → isShort s (length d) ≡ false
+not-short s d e n false t a x = t
+not-short s d e n true t a x =
+    false-true (ap isText (x .answered ∙ ap (λ (y : Answer). answerBy y s (length d)) a ∙ ap (λ (b : Bool). cond b (NotListed ShortBuffer) (Text (length (listingOf s)))) t))
+
+-- a text is answered only of an accepted log, in a buffer that is not short
+pub answered-accepted : (s d e : List ℕ) (n : ℕ) → ListingAnswered s d (Text n) e → (checked s ≡ Accepted) × (isShort s (length d) ≡ false)
+answered-accepted s d e n x =
+    let a = by-answer-text s d e n (checked s) refl x in (a, not-short s d e n (isShort s (length d)) refl a x)
+
+pub text-held : (s d e : List ℕ) (n : ℕ) → ListingAnswered s d (Text n) e → (n ≡ length (listingOf s)) × (e ≡ sets d 0 (listingOf s))
+text-held s d e n x =
+    let a = answered-accepted s d e n x in (
+      ap sizeOf (x .answered ∙ ap (λ (y : Answer). answerBy y s (length d)) (a .0) ∙ ap (λ (b : Bool). cond b (NotListed ShortBuffer) (Text (length (listingOf s)))) (a .1)),
+      x .holds ∙ ap (λ (y : Answer). heldBy y s d) (a .0) ∙ ap (λ (b : Bool). cond b d (sets d 0 (listingOf s))) (a .1),
+    )
+
 -- a text that was answered was put
 pub text-put : (s d e : List ℕ) (n : ℕ) → ((i : ℕ) → getD s i 0 < 256) → ListingAnswered s d (Text n) e → Put d 0 (listingOf s) n e
 text-put s d e n bytes x =
-    let a = by-answer-text s d e n (checked s) refl x in
-    let both = accepted-text s d e n (isShort s (length d)) refl a x in
-    record { goes-on = both .0 ∙ sym (ap place (zero-add (length (listingOf s))) ∙ whole-length s bytes a); holds = both .1 }
+    let both = text-held s d e n x in
+    record { goes-on = both .0 ∙ sym (ap place (zero-add (length (listingOf s))) ∙ whole-length s bytes (answered-accepted s d e n x .0)); holds = both .1 }
 
 short-same : (s d e : List ℕ) (why : Refusal) (short : Bool) → isShort s (length d) ≡ short → checked s ≡ Accepted → ListingAnswered s d (NotListed why) e → e ≡ d
 short-same s d e why true t a x = x .holds ∙ ap (λ (y : Answer). heldBy y s d) a ∙ ap (λ (b : Bool). cond b d (sets d 0 (listingOf s))) t

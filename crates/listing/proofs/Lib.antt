@@ -3,3 +3,4 @@ pub mod Spaced
 pub mod Replaying
 pub mod Bounds
 pub mod Answers
+pub mod Promise

@@ -6,3 +6,5 @@ pub mod Runs
 pub mod Spelled
 pub mod Blocks
 pub mod Logs
+pub mod Told
+pub mod Promise

@@ -4,3 +4,4 @@ pub mod Block
 pub mod Record
 pub mod Check
 pub mod Written
+pub mod Promise

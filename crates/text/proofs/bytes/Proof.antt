@@ -1,7 +1,7 @@
 -- `text::bytes` meets its contract: the bytes so far were put. Assumes nothing.
 use borrow.Author.Needs.{needs}
 use native.Mathlib.Omega.{arith}
-use Prim.Native.Nat.{ℕ, _-_, _≤_}
+use Prim.Native.Nat.{_-_, _≤_}
 use mathlib.Core.Path.{sym}
 use lib.ListN.{length, take}
 use lib.Seq.{take-all}
