@@ -2,7 +2,7 @@
 use Prim.Native.Nat.{ℕ, zero, suc, _+_, _-_, _/_, _%_, _≤_, _<_, _^_}
 use native.Mathlib.Nat.{pow-suc}
 use native.Mathlib.Omega.{arith}
-use mathlib.Core.Path.{_≡_, refl, ap, _∙_}
+use mathlib.Core.Path.{_≡_, refl, sym, ap, _∙_}
 use mathlib.Core.Bool.{cond}
 use mathlib.Core.List.{List, [], _∷_, _++_}
 use lib.Dec.{ltb, lit≤}
@@ -25,14 +25,19 @@ pub more-figures : (n : ℕ) → 10 ≤ n → n < 2 ^ 32 → decimal n ≡ decim
 unfolding decimalUpTo
 more-figures n a b = rw (le-ltb n 10 a) (ap (λ (t : List ℕ). t ++ ((48 + n % 10) ∷ [])) (enough 8 (n / 10) (let g : n < 4294967296 = b in omega arith)))
 
-pub no-figures : (n w : ℕ) → w ≡ 0 → hexadecimal w n ≡ []
-unfolding hexadecimal
-no-figures n w h = ap (λ (k : ℕ). hexadecimal k n) h
+pub two-figures : (n : ℕ) → 10 ≤ n → n < 100 → (48 + n / 10 % 10) ∷ (48 + n % 10) ∷ [] ≡ decimal n
+two-figures n a b =
+    sym (more-figures n a (omega (arith, b)) ∙ ap (λ (t : List ℕ). t ++ ((48 + n % 10) ∷ [])) (one-figure (n / 10) (omega (arith, b))))
 
-pub more-hexadecimal : (n w : ℕ) → (w ≡ 0 → ⊥) → hexadecimal w n ≡ hexadecimal (w - 1) (n / 16) ++ (figure (n % 16) ∷ [])
+pub two-more : (n : ℕ) → 100 ≤ n → n < 2 ^ 32 → decimal (n / 100) ++ ((48 + n / 10 % 10) ∷ []) ++ ((48 + n % 10) ∷ []) ≡ decimal n
+two-more n a b =
+    let h : n < 4294967296 = b in
+    ap (λ (m : ℕ). decimal m ++ ((48 + n / 10 % 10) ∷ []) ++ ((48 + n % 10) ∷ [])) (let e : n / 100 ≡ n / 10 / 10 = omega arith in e)
+    ∙ sym (more-figures n (omega (arith, a)) b ∙ ap (λ (t : List ℕ). t ++ ((48 + n % 10) ∷ [])) (more-figures (n / 10) (omega (arith, a)) (omega (arith, h))))
+
+pub eight-figures : (n : ℕ) → hexadecimal 4 (n / 16 / 16 / 16 / 16) ++ hexadecimal 4 n ≡ hexadecimal 8 n
 unfolding hexadecimal
-more-hexadecimal n zero h = absurd (h refl)
-more-hexadecimal n (suc w) h = ap (λ (k : ℕ). hexadecimal k (n / 16) ++ (figure (n % 16) ∷ [])) (let e : w ≡ suc w - 1 = omega arith in e)
+eight-figures n = refl
 
 -- ---- how many figures
 

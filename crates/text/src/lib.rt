@@ -2,7 +2,7 @@
 // measured by putting it into a buffer that is too short. Nothing is written into a buffer any other way.
 ghost use mathlib.Core.Path.{_≡_};
 ghost use mathlib.Core.List.{[], _∷_};
-ghost use Prim.Native.Nat.{_+_, _%_};
+ghost use Prim.Native.Nat.{_+_, _%_, _<_};
 ghost use Rattle.text.specs.Figures.{figure, hexadecimal, decimal as decimalFigures};
 ghost use Rattle.text.specs.Put.{Put, place};
 
@@ -48,35 +48,57 @@ pub fn bytes(out: &mut [u8], at: usize, text: &[u8]) -> usize
     place
 }
 
-// The last figures of a number in hexadecimal, as many as the width says.
-fn hex(out: &mut [u8], at: usize, width: u8, n: u32) -> usize
-    ensures { λ r. ⌜ Put (now (out .entry)) at (hexadecimal width n) r (now (out .exit)) ⌝ }
+// The last figure of a number in hexadecimal.
+fn hex1(out: &mut [u8], at: usize, n: u32) -> usize
+    ensures { λ r. ⌜ Put (now (out .entry)) at (figure (n % 16) ∷ []) r (now (out .exit)) ⌝ }
 {
-    if width == 0 {
-        return at;
-    }
-    let place = hex(out, at, width - 1, n / 16);
-    byte(out, place, figure_of(n))
+    byte(out, at, figure_of(n))
 }
 
-pub fn hex2(out: &mut [u8], at: usize, n: u8) -> usize
-    ensures { λ r. ⌜ Put (now (out .entry)) at (hexadecimal 2 n) r (now (out .exit)) ⌝ }
+// The last four.
+fn hex4(out: &mut [u8], at: usize, n: u32) -> usize
+    ensures { λ r. ⌜ Put (now (out .entry)) at (hexadecimal 4 n) r (now (out .exit)) ⌝ }
 {
-    hex(out, at, 2, n as u32)
+    let a = hex1(out, at, n / 16 / 16 / 16);
+    let b = hex1(out, a, n / 16 / 16);
+    let c = hex1(out, b, n / 16);
+    hex1(out, c, n)
 }
 
 pub fn hex8(out: &mut [u8], at: usize, n: u32) -> usize
     ensures { λ r. ⌜ Put (now (out .entry)) at (hexadecimal 8 n) r (now (out .exit)) ⌝ }
 {
-    hex(out, at, 8, n)
+    let a = hex4(out, at, n / 16 / 16 / 16 / 16);
+    hex4(out, a, n)
 }
 
-pub fn decimal(out: &mut [u8], at: usize, n: u32) -> usize
+pub fn hex2(out: &mut [u8], at: usize, n: u8) -> usize
+    ensures { λ r. ⌜ Put (now (out .entry)) at (hexadecimal 2 n) r (now (out .exit)) ⌝ }
+{
+    let a = hex1(out, at, n as u32 / 16);
+    hex1(out, a, n as u32)
+}
+
+// A number of one or two figures in decimal.
+fn below_hundred(out: &mut [u8], at: usize, n: u32) -> usize
+    requires { ⌜ n < 100 ⌝ }
     ensures { λ r. ⌜ Put (now (out .entry)) at (decimalFigures n) r (now (out .exit)) ⌝ }
 {
     if n < 10 {
         return byte(out, at, (48 + n % 10) as u8);
     }
-    let place = decimal(out, at, n / 10);
-    byte(out, place, (48 + n % 10) as u8)
+    let a = byte(out, at, (48 + n / 10 % 10) as u8);
+    byte(out, a, (48 + n % 10) as u8)
+}
+
+// A number in decimal: the figures of its hundredth, if there is one, and two more.
+pub fn decimal(out: &mut [u8], at: usize, n: u32) -> usize
+    ensures { λ r. ⌜ Put (now (out .entry)) at (decimalFigures n) r (now (out .exit)) ⌝ }
+{
+    if n < 100 {
+        return below_hundred(out, at, n);
+    }
+    let a = decimal(out, at, n / 100);
+    let b = byte(out, a, (48 + n / 10 % 10) as u8);
+    byte(out, b, (48 + n % 10) as u8)
 }
