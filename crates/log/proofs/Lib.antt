@@ -8,3 +8,4 @@ pub mod Blocks
 pub mod Logs
 pub mod Told
 pub mod Promise
+pub mod Views
