@@ -13,25 +13,30 @@ use Rattle.refusal.specs.declared.Refusal.{Refusal}
 use Rattle.refusal.specs.declared.Refusal.the-variants.{ShortBuffer}
 use Rattle.codec.specs.declared.frame.Answer.{Answer}
 use Rattle.codec.specs.declared.frame.Answer.the-variants.{Accepted, Refused}
-use Rattle.text.specs.Put.{Put, place}
+use Rattle.text.specs.declared.written.Written.{Written}
+use Rattle.text.specs.declared.written.Written.the-variants.{Text, Refused as NotListed}
+use Rattle.text.specs.Put.{Put, place, lastPlace}
+use Rattle.text.specs.Written.{Fitted, refusedLine}
 use Rattle.text.proofs.Put.{place-within, put-as}
+use Rattle.text.proofs.Fitted.{short-refused as too-short, text-written, text-not-refused, text-put, refused-same as fitted-same}
 use Rattle.log.specs.Layout.{countOf}
 use Rattle.log.specs.Check.{checked}
 use Rattle.log.proofs.Parts.{laid-out}
 use Rattle.log.proofs.Runs.{sound}
-use Rattle.listing.specs.declared.listing.Listed.{Listed}
-use Rattle.listing.specs.declared.listing.Listed.the-variants.{Text, Refused as NotListed}
-use Rattle.listing.specs.Listing.{listingOf, isShort, answerBy, heldBy, ListingAnswered, refusedLine, outputBy, outputOf}
+use Rattle.listing.specs.Listing.{listingOf, isShort, answerBy, AnsweredBy, ListingAnswered, outputBy, outputOf}
 use Rattle.listing.proofs.Bounds.{listing-length}
 
 -- ---- lengths
 
 -- no listing is so long that places give out
-pub whole-length : (s : List ℕ) → ((i : ℕ) → getD s i 0 < 256) → checked s ≡ Accepted → place (length (listingOf s)) ≡ length (listingOf s)
-whole-length s bytes a =
+within : (s : List ℕ) → ((i : ℕ) → getD s i 0 < 256) → checked s ≡ Accepted → length (listingOf s) ≤ lastPlace
+within s bytes a =
     let l = listing-length s bytes a in
     let c = laid-out s (sound s a .laid) .count in
-    place-within (length (listingOf s)) (omega (arith, l, c))
+    omega (arith, l, c)
+
+pub whole-length : (s : List ℕ) → ((i : ℕ) → getD s i 0 < 256) → checked s ≡ Accepted → place (length (listingOf s)) ≡ length (listingOf s)
+whole-length s bytes a = place-within (length (listingOf s)) (within s bytes a)
 
 -- a buffer of 46 bytes for each record and 57 is never short
 pub room-enough : (s : List ℕ) → ((i : ℕ) → getD s i 0 < 256) → checked s ≡ Accepted → (room : ℕ) → 46 * countOf s + 57 ≤ room → isShort s room ≡ false
@@ -40,80 +45,47 @@ room-enough s bytes a room h = let l = listing-length s bytes a in le-ltb room (
 -- ---- the answer, and what the buffer holds
 
 pub log-refused : (s held : List ℕ) (why : Refusal) → checked s ≡ Refused why → ListingAnswered s held (NotListed why) held
-log-refused s held why a =
-    record { answered = ap (λ (x : Answer). answerBy x s (length held)) (sym a); holds = ap (λ (x : Answer). heldBy x s held) (sym a) }
+log-refused s held why a = subst (λ (x : Answer). AnsweredBy x s held (NotListed why) held) (sym a) (record { answered = refl; holds = refl })
+
+fitted-answered : (s held after : List ℕ) (r : Written) → checked s ≡ Accepted → Fitted (listingOf s) held r after → ListingAnswered s held r after
+fitted-answered s held after r a x = subst (λ (y : Answer). AnsweredBy y s held r after) (sym a) x
 
 pub short-refused : (s held : List ℕ) → checked s ≡ Accepted → isShort s (length held) ≡ true → ListingAnswered s held (NotListed ShortBuffer) held
-short-refused s held a t =
-    record {
-      answered = sym (ap (λ (x : Answer). answerBy x s (length held)) a ∙ ap (λ (b : Bool). cond b (NotListed ShortBuffer) (Text (length (listingOf s)))) t);
-      holds = sym (ap (λ (x : Answer). heldBy x s held) a ∙ ap (λ (b : Bool). cond b held (sets held 0 (listingOf s))) t);
-    }
+short-refused s held a t = fitted-answered s held held (NotListed ShortBuffer) a (too-short (listingOf s) held t)
 
 pub listed : (s held after : List ℕ) (r : ℕ) → ((i : ℕ) → getD s i 0 < 256) → checked s ≡ Accepted → isShort s (length held) ≡ false → Put held 0 (listingOf s) r after → ListingAnswered s held (Text r) after
-listed s held after r bytes a t p =
-    record {
-      answered = ap Text (p .goes-on ∙ ap place (zero-add (length (listingOf s))) ∙ whole-length s bytes a) ∙ sym (ap (λ (x : Answer). answerBy x s (length held)) a ∙ ap (λ (b : Bool). cond b (NotListed ShortBuffer) (Text (length (listingOf s)))) t);
-      holds = p .holds ∙ sym (ap (λ (x : Answer). heldBy x s held) a ∙ ap (λ (b : Bool). cond b held (sets held 0 (listingOf s))) t);
-    }
+listed s held after r bytes a t p = fitted-answered s held after (Text r) a (text-written (listingOf s) held after r (within s bytes a) t p)
 
 -- ---- an answer that is had
 
-abbrev isText : Listed → Bool
-isText (Text n) = true
-isText (NotListed why) = false
+pub answered-by : (a : Answer) (s held after : List ℕ) (r : Written) → AnsweredBy a s held r after → r ≡ answerBy a s (length held)
+answered-by Accepted s held after r x = x .answered
+answered-by (Refused why) s held after r x = x .answered
 
-abbrev sizeOf : Listed → ℕ
-sizeOf (Text n) = n
-sizeOf (NotListed why) = 0
+text-by : (a : Answer) (s held after : List ℕ) (n : ℕ) → AnsweredBy a s held (Text n) after → (a ≡ Accepted) × Fitted (listingOf s) held (Text n) after
+text-by Accepted s held after n x = (refl, x)
+text-by (Refused why) s held after n x = text-not-refused n why (x .answered)
 
-by-answer-text : (s d e : List ℕ) (n : ℕ) (a : Answer) → checked s ≡ a → ListingAnswered s d (Text n) e → checked s ≡ Accepted
-by-answer-text s d e n Accepted q x = q
-by-answer-text s d e n (Refused why) q x = false-true (ap isText (x .answered ∙ ap (λ (y : Answer). answerBy y s (length d)) q))
+-- a text is answered only of an accepted log
+pub text-fitted : (s held after : List ℕ) (n : ℕ) → ListingAnswered s held (Text n) after → (checked s ≡ Accepted) × Fitted (listingOf s) held (Text n) after
+text-fitted s held after n x = text-by (checked s) s held after n x
 
-not-short : (s d e : List ℕ) (n : ℕ) (short : Bool) → isShort s (length d) ≡ short → checked s ≡ Accepted → ListingAnswered s d (Text n) e → isShort s (length d) ≡ false
-not-short s d e n false t a x = t
-not-short s d e n true t a x =
-    false-true (ap isText (x .answered ∙ ap (λ (y : Answer). answerBy y s (length d)) a ∙ ap (λ (b : Bool). cond b (NotListed ShortBuffer) (Text (length (listingOf s)))) t))
-
--- a text is answered only of an accepted log, in a buffer that is not short
-pub answered-accepted : (s d e : List ℕ) (n : ℕ) → ListingAnswered s d (Text n) e → (checked s ≡ Accepted) × (isShort s (length d) ≡ false)
-answered-accepted s d e n x =
-    let a = by-answer-text s d e n (checked s) refl x in (a, not-short s d e n (isShort s (length d)) refl a x)
-
-pub text-held : (s d e : List ℕ) (n : ℕ) → ListingAnswered s d (Text n) e → (n ≡ length (listingOf s)) × (e ≡ sets d 0 (listingOf s))
-text-held s d e n x =
-    let a = answered-accepted s d e n x in (
-      ap sizeOf (x .answered ∙ ap (λ (y : Answer). answerBy y s (length d)) (a .0) ∙ ap (λ (b : Bool). cond b (NotListed ShortBuffer) (Text (length (listingOf s)))) (a .1)),
-      x .holds ∙ ap (λ (y : Answer). heldBy y s d) (a .0) ∙ ap (λ (b : Bool). cond b d (sets d 0 (listingOf s))) (a .1),
-    )
-
--- a text that was answered was put
-pub text-put : (s d e : List ℕ) (n : ℕ) → ((i : ℕ) → getD s i 0 < 256) → ListingAnswered s d (Text n) e → Put d 0 (listingOf s) n e
-text-put s d e n bytes x =
-    let both = text-held s d e n x in
-    record { goes-on = both .0 ∙ sym (ap place (zero-add (length (listingOf s))) ∙ whole-length s bytes (answered-accepted s d e n x .0)); holds = both .1 }
-
-short-same : (s d e : List ℕ) (why : Refusal) (short : Bool) → isShort s (length d) ≡ short → checked s ≡ Accepted → ListingAnswered s d (NotListed why) e → e ≡ d
-short-same s d e why true t a x = x .holds ∙ ap (λ (y : Answer). heldBy y s d) a ∙ ap (λ (b : Bool). cond b d (sets d 0 (listingOf s))) t
-short-same s d e why false t a x =
-    false-true (sym (ap isText (x .answered ∙ ap (λ (y : Answer). answerBy y s (length d)) a ∙ ap (λ (b : Bool). cond b (NotListed ShortBuffer) (Text (length (listingOf s)))) t)))
-
-by-answer-same : (s d e : List ℕ) (why : Refusal) (a : Answer) → checked s ≡ a → ListingAnswered s d (NotListed why) e → e ≡ d
-by-answer-same s d e why Accepted q x = short-same s d e why (isShort s (length d)) refl q x
-by-answer-same s d e why (Refused w) q x = x .holds ∙ ap (λ (y : Answer). heldBy y s d) q
+same-by : (a : Answer) (s held after : List ℕ) (why : Refusal) → AnsweredBy a s held (NotListed why) after → after ≡ held
+same-by Accepted s held after why x = fitted-same (listingOf s) held after why x
+same-by (Refused w) s held after why x = x .holds
 
 -- a refusal leaves the buffer as it came
-pub refused-same : (s d e : List ℕ) (why : Refusal) → ListingAnswered s d (NotListed why) e → e ≡ d
-refused-same s d e why x = by-answer-same s d e why (checked s) refl x
+pub refused-same : (s held after : List ℕ) (why : Refusal) → ListingAnswered s held (NotListed why) after → after ≡ held
+refused-same s held after why x = same-by (checked s) s held after why x
 
 -- ---- what the program writes
 
-pub output-text : (s d e : List ℕ) (l : Listed) (n : ℕ) → ((i : ℕ) → getD s i 0 < 256) → l ≡ Text n → ListingAnswered s d l e → Put d 0 (outputOf s (length d)) n e
+pub output-text : (s d e : List ℕ) (l : Written) (n : ℕ) → ((i : ℕ) → getD s i 0 < 256) → l ≡ Text n → ListingAnswered s d l e → Put d 0 (outputOf s (length d)) n e
 output-text s d e l n bytes q x =
-    put-as (ap (λ (y : Listed). outputBy y s) (sym q ∙ x .answered)) (text-put s d e n bytes (subst (λ (y : Listed). ListingAnswered s d y e) q x))
+    let both = text-fitted s d e n (subst (λ (y : Written). ListingAnswered s d y e) q x) in
+    put-as (ap (λ (y : Written). outputBy y s) (sym q ∙ answered-by (checked s) s d e l x)) (text-put (listingOf s) d e n (within s bytes (both .0)) (both .1))
 
-pub output-refused : (s d e f : List ℕ) (l : Listed) (why : Refusal) (r : ℕ) → l ≡ NotListed why → ListingAnswered s d l e → Put e 0 (refusedLine why) r f → Put d 0 (outputOf s (length d)) r f
+pub output-refused : (s d e f : List ℕ) (l : Written) (why : Refusal) (r : ℕ) → l ≡ NotListed why → ListingAnswered s d l e → Put e 0 (refusedLine why) r f → Put d 0 (outputOf s (length d)) r f
 output-refused s d e f l why r q x p =
-    put-as (ap (λ (y : Listed). outputBy y s) (sym q ∙ x .answered))
-    (subst (λ (b : List ℕ). Put b 0 (refusedLine why) r f) (refused-same s d e why (subst (λ (y : Listed). ListingAnswered s d y e) q x)) p)
+    put-as (ap (λ (y : Written). outputBy y s) (sym q ∙ answered-by (checked s) s d e l x))
+    (subst (λ (b : List ℕ). Put b 0 (refusedLine why) r f) (refused-same s d e why (subst (λ (y : Written). ListingAnswered s d y e) q x)) p)

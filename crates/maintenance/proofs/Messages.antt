@@ -8,7 +8,7 @@ use lib.Dec.{eqb, leb}
 use lib.ListN.{getD}
 use borrow.Author.Tests.{eqb-true, eq-eqb, ne-eqb, le-leb, leb-true}
 use native.Mathlib.Omega.{arith}
-use Rattle.words.proofs.Tests.{false-true}
+use Rattle.words.proofs.Tests.{false-true, and-left, and-right, and-false}
 use Rattle.codec.specs.declared.frame.Frame.{Frame}
 use Rattle.codec.specs.Table.{part, numberAt}
 use Rattle.maintenance.specs.declared.setting.Setting.{Setting}
@@ -20,20 +20,6 @@ use Rattle.maintenance.specs.declared.message.Message.the-variants.{Othe
 use Rattle.maintenance.specs.Settings.{code, settingOf}
 use Rattle.maintenance.specs.Messages.{byte, isUnlock, isCommit, isAnswer, asksSerial, asRead, asWrite, message, sameSeven, challengeOf, answerTo}
 use Rattle.maintenance.specs.Promise.{Says, RightMeans}
-
--- ---- tests joined
-
-pub and-left : (a b : Bool) → (a && b) ≡ true → a ≡ true
-and-left true b e = refl
-and-left false b e = e
-
-pub and-right : (a b : Bool) → (a && b) ≡ true → b ≡ true
-and-right true b e = e
-and-right false b e = false-true (sym e)
-
-pub and-false : (a : Bool) → (a && false) ≡ false
-and-false true = refl
-and-false false = refl
 
 -- ---- codes
 

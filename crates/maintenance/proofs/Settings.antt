@@ -1,8 +1,8 @@
 -- Settings: what is accepted taken apart and put together, and values with the top bit set. Assumes nothing.
 use Prim.Native.Nat.{ℕ, _<_, _≤_}
 use mathlib.Core.Path.{_≡_, refl, sym, ap, _∙_}
-use mathlib.Core.Bool.{Bool, true, false, _&&_}
-use lib.Dec.{leb, ltb}
+use mathlib.Core.Bool.{Bool, true, false, cond, _&&_}
+use lib.Dec.{eqb, leb, ltb, lit<}
 use borrow.Author.Tests.{leb-true, ltb-true, lt-leb, le-ltb, ne-eqb}
 use native.Mathlib.Omega.{arith}
 use Rattle.maintenance.specs.declared.setting.Setting.{Setting}
@@ -10,9 +10,9 @@ use Rattle.maintenance.specs.declared.setting.Setting.the-variants.{Rece
 use Rattle.maintenance.specs.declared.setting.Named.{Named}
 use Rattle.maintenance.specs.declared.setting.Named.the-variants.{Unknown, Known}
 use Rattle.maintenance.specs.declared.setting.Settings.{Settings}
-use Rattle.maintenance.specs.Settings.{code, settingOf, legal, accepted}
+use Rattle.maintenance.specs.Settings.{code, settingOf, legal, accepted, speedNumber}
 use Rattle.maintenance.specs.Promise.{NegativeRefused}
-use Rattle.maintenance.proofs.Messages.{and-left, and-right, and-false}
+use Rattle.words.proofs.Tests.{by-test, and-left, and-right, and-false}
 
 -- ---- negative values
 
@@ -82,6 +82,10 @@ level-some v t = leb-true 1 v (and-left (leb 1 v) (leb v 2147483647) t)
 
 pub voltage-below : (rating : ℕ) (k : Settings) → Parts rating k → k .voltage < rating
 voltage-below rating k p = ltb-true (k .voltage) rating (p .voltage)
+
+-- a speed is shown in three figures
+pub speed-below : (v : ℕ) → speedNumber v < 1000
+speed-below v = by-test (eqb v 0x00CA0250) (λ (b : Bool). cond b 250 500 < 1000) (lit< tt) (lit< tt)
 
 -- ---- a code is one setting's
 

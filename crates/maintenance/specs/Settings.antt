@@ -66,3 +66,7 @@ withValue k Speed v = record { receive = k .receive; transmit = k .transmit; spe
 withValue k Voltage v = record { receive = k .receive; transmit = k .transmit; speed = k .speed; voltage = v; warning = k .warning; fault = k .fault }
 withValue k WarningLevel v = record { receive = k .receive; transmit = k .transmit; speed = k .speed; voltage = k .voltage; warning = v; fault = k .fault }
 withValue k FaultLevel v = record { receive = k .receive; transmit = k .transmit; speed = k .speed; voltage = k .voltage; warning = k .warning; fault = v }
+
+-- a speed of 0x00CA0250 is shown as 250, the other as 500
+abbrev pub speedNumber : ℕ → ℕ
+speedNumber v = cond (eqb v 0x00CA0250) 250 500

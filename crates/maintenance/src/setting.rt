@@ -1,6 +1,6 @@
 // The six settings of document 002's table 4.
 ghost use mathlib.Core.Path.{_≡_};
-ghost use Rattle.maintenance.specs.Settings.{code, settingOf, legal, accepted, valueOf, withValue};
+ghost use Rattle.maintenance.specs.Settings.{code, settingOf, legal, accepted, valueOf, withValue, speedNumber};
 
 pub enum Setting {
     ReceiveId,
@@ -107,4 +107,12 @@ pub fn with_value(settings: Settings, setting: Setting, value: u32) -> Settings
         Setting::FaultLevel => s.fault = value,
     }
     s
+}
+
+// The speed as it is shown: its number in texts.
+pub fn speed_number(speed: u32) -> u32
+    ensures { λ r. ⌜ r ≡ speedNumber speed ⌝ }
+{
+    let slow = speed == 0x00CA0250;
+    if slow { 250 } else { 500 }
 }

@@ -1,7 +1,7 @@
 // Answers the log cases on standard input, as docs/LOG_CASES.md lays them out, each by its listing or a line `refused N`.
-use listing::listing::Listed;
 use listing::listing::listing;
-use listing::output::refused_line;
+use text::written::Written;
+use text::written::refused_line;
 use words::Order;
 use words::word::word32;
 
@@ -9,8 +9,8 @@ use words::word::word32;
 fn answer(log: &[u8], text: &mut [u8]) {
     let listed = listing(log, text);
     match listed {
-        Listed::Text(n) => show::first(text, n),
-        Listed::Refused(why) => {
+        Written::Text(n) => show::first(text, n),
+        Written::Refused(why) => {
             let mut line = [0; 16];
             let n = refused_line(&mut line, why);
             show::first(&line, n);

@@ -5,13 +5,12 @@ use mathlib.Core.Bool.{Bool, true, false, cond, _&&_}
 use mathlib.Core.List.{List, _∷_}
 use mathlib.Core.Logic.{_↔_}
 use mathlib.Core.Option.{Option, Option·getD}
-use Rattle.words.proofs.Tests.{decided, false-true}
+use Rattle.words.proofs.Tests.{decided, false-true, and-left, and-right}
 use Rattle.maintenance.specs.declared.setting.Setting.{Setting}
 use Rattle.maintenance.specs.declared.setting.Setting.the-variants.{ReceiveId, TransmitId, Speed, Voltage, WarningLevel, FaultLevel}
 use Rattle.maintenance.specs.declared.setting.Settings.{Settings}
 use Rattle.maintenance.specs.Settings.{valueOf}
 use Rattle.maintenance.specs.Messages.{message, heardOn}
-use Rattle.maintenance.proofs.Messages.{and-left, and-right}
 use Rattle.rules.specs.declared.time.Stamp.{Stamp}
 use Rattle.rules.specs.Events.{Event, frameEvent, resetEvent, PowerOn, stampOf, lastStamp}
 use Rattle.rules.specs.History.{commits, taking, storedAfter, inSession, lastWrite}

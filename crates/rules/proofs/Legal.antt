@@ -6,7 +6,7 @@ use mathlib.Core.List.{List, [], _∷_}
 use mathlib.Core.Option.{Option, none, some, Option·getD, Option·some-injective}
 use lib.Dec.{leb, ltb, eqb}
 use borrow.Author.Tests.{eqb-true}
-use Rattle.words.proofs.Tests.{decided}
+use Rattle.words.proofs.Tests.{decided, and-left, and-right}
 use Rattle.maintenance.specs.declared.setting.Setting.{Setting}
 use Rattle.maintenance.specs.declared.setting.Setting.the-variants.{ReceiveId, TransmitId, Speed, Voltage, WarningLevel, FaultLevel}
 use Rattle.maintenance.specs.declared.setting.Settings.{Settings}
@@ -14,7 +14,6 @@ use Rattle.maintenance.specs.declared.message.Message.{Message}
 use Rattle.maintenance.specs.declared.message.Message.the-variants.{Other, Unlock, Commit, Answer as Answered, SerialRequest, Read, Write}
 use Rattle.maintenance.specs.Settings.{code, legal}
 use Rattle.maintenance.specs.Messages.{message, heardOn}
-use Rattle.maintenance.proofs.Messages.{and-left, and-right}
 use Rattle.maintenance.proofs.Settings.{Parts, accepted-parts, same-code}
 use Rattle.rules.specs.Events.{Event, frameEvent, resetEvent, PowerOn, IsAccepted}
 use Rattle.rules.specs.History.{commits, writes, newest, taking, storedAfter, inSession, lastWrite}

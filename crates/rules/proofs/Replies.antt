@@ -5,7 +5,7 @@ use mathlib.Core.Bool.{Bool, true, false, cond, _&&_}
 use lib.Dec.{eqb}
 use borrow.Author.Tests.{le-ltb, lt-ltb}
 use native.Mathlib.Omega.{arith}
-use Rattle.words.proofs.Tests.{decided, false-true}
+use Rattle.words.proofs.Tests.{decided, false-true, and-false}
 use Rattle.codec.specs.declared.frame.Frame.{Frame}
 use Rattle.codec.specs.Table.{numberAt}
 use Rattle.maintenance.specs.declared.setting.Named.{Named}
@@ -14,7 +14,7 @@ use Rattle.maintenance.specs.declared.message.Message.{Message}
 use Rattle.maintenance.specs.declared.message.Message.the-variants.{Other, Unlock, Answer, SerialRequest}
 use Rattle.maintenance.specs.Settings.{settingOf}
 use Rattle.maintenance.specs.Messages.{byte, isUnlock, isCommit, isAnswer, asksSerial, asRead, asWrite, message, isRight}
-use Rattle.maintenance.proofs.Messages.{and-false, says, right-means}
+use Rattle.maintenance.proofs.Messages.{says, right-means}
 use Rattle.rules.specs.declared.time.Stamp.{Stamp}
 use Rattle.rules.specs.declared.unit.Pending.{Pending}
 use Rattle.rules.specs.declared.unit.Session.{Session}

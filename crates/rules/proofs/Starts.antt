@@ -5,11 +5,10 @@ use mathlib.Core.Bool.{Bool, true, false, _&&_}
 use mathlib.Core.List.{List, [], _∷_, _++_, append-nil}
 use borrow.Author.Tests.{leb-true, leb-false, le-leb, lt-leb, not-true}
 use native.Mathlib.Omega.{arith}
-use Rattle.words.proofs.Tests.{decided, false-true}
+use Rattle.words.proofs.Tests.{decided, false-true, and-left, and-right}
 use Rattle.codec.specs.declared.frame.Frame.{Frame}
 use Rattle.maintenance.specs.declared.message.Message.{Message}
 use Rattle.maintenance.specs.Messages.{message, heardOn}
-use Rattle.maintenance.proofs.Messages.{and-left, and-right}
 use Rattle.rules.specs.declared.time.Stamp.{Stamp}
 use Rattle.rules.specs.Times.{later}
 use Rattle.rules.specs.Events.{Event, frameEvent, resetEvent, PowerOn, stampOf, lastStamp, Run}

@@ -3,13 +3,13 @@ use Prim.Native.Nat.{ℕ, zero, suc, _+_, _-_, _/_, _%_, _≤_, _<_, _^_}
 use native.Mathlib.Nat.{pow-suc}
 use native.Mathlib.Omega.{arith}
 use mathlib.Core.Path.{_≡_, refl, sym, ap, _∙_}
-use mathlib.Core.Bool.{cond}
+use mathlib.Core.Bool.{Bool, true, false, cond, not, _&&_}
 use mathlib.Core.List.{List, [], _∷_, _++_}
-use lib.Dec.{ltb, lit≤}
-use lib.ListN.{length, length-append}
-use borrow.Author.Tests.{lt-ltb, le-ltb}
-use Rattle.words.proofs.Tests.{decided}
-use Rattle.text.specs.Figures.{decimalUpTo, decimal, hexadecimal, figure}
+use lib.Dec.{eqb, ltb, lit≤}
+use lib.ListN.{length, getD, length-append}
+use borrow.Author.Tests.{lt-ltb, le-ltb, eq-eqb, ne-eqb}
+use Rattle.words.proofs.Tests.{by-test, decided, false-true, and-left, and-right, and-true}
+use Rattle.text.specs.Figures.{decimalUpTo, decimal, hexadecimal, figure, figureBy}
 
 pub one-figure : (n : ℕ) → n < 10 → decimal n ≡ (48 + n % 10) ∷ []
 unfolding decimalUpTo
@@ -73,3 +73,41 @@ few-figures (suc k) (suc j) n h =
 
 pub decimal-below : (j n : ℕ) → n < 10 ^ suc j → length (decimal n) ≤ suc j
 decimal-below j n h = few-figures 9 j n h
+
+-- ---- which figures
+
+-- a byte that is nowhere in a text
+abbrev pub lacks : ℕ → List ℕ → Bool
+lacks c [] = true
+lacks c (b ∷ bs) = not (eqb b c) && lacks c bs
+
+pub lacks-append : (c : ℕ) (t u : List ℕ) → lacks c t ≡ true → lacks c u ≡ true → lacks c (t ++ u) ≡ true
+lacks-append c [] u p q = q
+lacks-append c (b ∷ t) u p q = and-true (not (eqb b c)) _ (and-left (not (eqb b c)) _ p) (lacks-append c t u (and-right (not (eqb b c)) _ p) q)
+
+pub lacks-one : (c b : ℕ) → c < b → lacks c (b ∷ []) ≡ true
+lacks-one c b h = rw (ne-eqb b c (λ e. omega (arith, h, e))) refl
+
+-- no figure is below 48
+pub hexadecimal-lacks : (c w n : ℕ) → c < 48 → lacks c (hexadecimal w n) ≡ true
+unfolding hexadecimal
+hexadecimal-lacks c zero n h = refl
+hexadecimal-lacks c (suc w) n h =
+    lacks-append c (hexadecimal w (n / 16)) (figure (n % 16) ∷ []) (hexadecimal-lacks c w (n / 16) h)
+    (by-test (ltb (n % 16) 10) (λ (b : Bool). lacks c (figureBy b (n % 16) ∷ []) ≡ true) (lacks-one c (48 + n % 16) (omega (arith, h))) (lacks-one c (55 + n % 16) (omega (arith, h))))
+
+up-to-lacks : (c k n : ℕ) → c < 48 → lacks c (decimalUpTo k n) ≡ true
+unfolding decimalUpTo
+up-to-lacks c zero n h = lacks-one c (48 + n % 10) (omega (arith, h))
+up-to-lacks c (suc k) n h =
+    by-test (ltb n 10) (λ (b : Bool). lacks c (cond b ((48 + n % 10) ∷ []) (decimalUpTo k (n / 10) ++ ((48 + n % 10) ∷ []))) ≡ true)
+    (lacks-one c (48 + n % 10) (omega (arith, h)))
+    (lacks-append c (decimalUpTo k (n / 10)) ((48 + n % 10) ∷ []) (up-to-lacks c k (n / 10) h) (lacks-one c (48 + n % 10) (omega (arith, h))))
+
+pub decimal-lacks : (c n : ℕ) → c < 48 → lacks c (decimal n) ≡ true
+decimal-lacks c n h = up-to-lacks c 9 n h
+
+pub lacks-at : {X : Type 0} (c : ℕ) (t : List ℕ) → lacks c t ≡ true → (i : ℕ) → 1 ≤ c → getD t i 0 ≡ c → X
+lacks-at c [] l i one e = absurd (omega (arith, one, e))
+lacks-at c (b ∷ t) l zero one e = false-true (sym (sym (ap not (eq-eqb b c e)) ∙ and-left (not (eqb b c)) _ l))
+lacks-at c (b ∷ t) l (suc i) one e = lacks-at c t (and-right (not (eqb b c)) _ l) i one e

@@ -6,6 +6,8 @@ ghost use Prim.Native.Nat.{_+_, _%_, _<_};
 ghost use Rattle.text.specs.Figures.{figure, hexadecimal, decimal as decimalFigures};
 ghost use Rattle.text.specs.Put.{Put, place};
 
+pub mod written;
+
 // The place after one.
 fn after(at: usize) -> usize
     ensures { λ r. ⌜ r ≡ place (at + 1) ⌝ }

@@ -1,7 +1,7 @@
--- `listing::line::speed_number` meets its contract: 250 or 500. Assumes nothing.
+-- `maintenance::setting::speed_number` meets its contract: 250 or 500. Assumes nothing.
 use mathlib.Core.Path.{refl}
-use Rattle.listing.proofs.line.speed_number.Statement.{statement}
-use Rattle.listing.proofs.line.speed_number.Tie as tie
+use Rattle.maintenance.proofs.setting.speed_number.Statement.{statement}
+use Rattle.maintenance.proofs.setting.speed_number.Tie as tie
 
 returns : tie.Need-returns
 returns c = rw (c .if1 .taken) refl
