@@ -34,6 +34,28 @@ mod monitor_tests;
 mod monitor_wander;
 mod random;
 mod refusal;
+mod sheet;
+#[cfg(test)]
+mod sheet_case_tests;
+mod sheet_cases;
+mod sheet_catalogue;
+mod sheet_changes;
+#[cfg(test)]
+mod sheet_coverage;
+mod sheet_inputs;
+mod sheet_lines;
+mod sheet_parts;
+#[cfg(test)]
+mod sheet_places;
+mod sheet_shapes;
+#[cfg(test)]
+mod sheet_tally;
+#[cfg(test)]
+mod sheet_tests;
+mod sheet_values;
+#[cfg(test)]
+mod sheet_writer_tests;
+mod sheet_writes;
 
 use std::io::{self, BufWriter, Read, Write};
 use std::path::Path;
@@ -47,7 +69,11 @@ const USAGE: &str = "usage: second codec-inputs SEED COUNT   write COUNT records
        second log-inputs SEED COUNT     write COUNT log cases
        second log-answers               answer the log cases on standard input
        second log-files DIR             write the log cases on standard input as files
-       second replay                    list the log on standard input";
+       second replay                    list the log on standard input
+       second sheet-inputs SEED COUNT   write COUNT sheet cases
+       second sheet-answers             answer the sheet cases on standard input
+       second sheet-files DIR           write the sheets on standard input as files
+       second sheet                     judge the sheet on standard input";
 
 /// What the command line asks for.
 enum Command {
@@ -60,6 +86,10 @@ enum Command {
     LogAnswers,
     LogFiles { directory: String },
     Replay,
+    SheetInputs { seed: u64, count: u64 },
+    SheetAnswers,
+    SheetFiles { directory: String },
+    Sheet,
 }
 
 fn command(arguments: &[String]) -> Option<Command> {
@@ -80,6 +110,14 @@ fn command(arguments: &[String]) -> Option<Command> {
         ["log-answers"] => Some(Command::LogAnswers),
         ["log-files", directory] => Some(Command::LogFiles { directory: directory.to_string() }),
         ["replay"] => Some(Command::Replay),
+        ["sheet-inputs", seed, count] => {
+            Some(Command::SheetInputs { seed: seed.parse().ok()?, count: count.parse().ok()? })
+        }
+        ["sheet-answers"] => Some(Command::SheetAnswers),
+        ["sheet-files", directory] => {
+            Some(Command::SheetFiles { directory: directory.to_string() })
+        }
+        ["sheet"] => Some(Command::Sheet),
         _ => None,
     }
 }
@@ -112,6 +150,12 @@ fn run(command: &Command) -> io::Result<bool> {
             let bytes = listing::input(io::stdin().lock())?;
             out.write_all(listing::replay(&bytes).as_bytes())?;
         }
+        Command::SheetInputs { seed, count } => sheet_inputs::write_all(*seed, *count, &mut out)?,
+        Command::SheetAnswers => sheet_cases::answer_all(&cases()?, &mut out)?,
+        Command::SheetFiles { directory } => {
+            sheet_cases::write_files(&cases()?, Path::new(directory))?;
+        }
+        Command::Sheet => out.write_all(sheet::program(&cases()?).as_bytes())?,
     }
     out.flush()?;
     Ok(same)

@@ -27,6 +27,8 @@ pub enum Refusal {
     LogTrailer = 9,
     /// "log record wrong"
     LogRecord = 10,
+    /// "order sheet wrong"
+    SheetWrong = 11,
     /// "the buffer lent to the sheet writer is shorter than the text"; so it is
     /// for the buffer lent for a listing.
     NoRoom = 12,

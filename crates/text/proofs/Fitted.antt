@@ -14,7 +14,7 @@ use Rattle.refusal.specs.declared.Refusal.the-variants.{ShortBuffer}
 use Rattle.text.specs.declared.written.Written.{Written}
 use Rattle.text.specs.declared.written.Written.the-variants.{Text, Refused}
 use Rattle.text.specs.Put.{Put, place, lastPlace}
-use Rattle.text.specs.Written.{isShort, heldWith, Fitted, NotWritten}
+use Rattle.text.specs.Written.{isShort, Fitted}
 use Rattle.text.proofs.Put.{place-within}
 
 -- ---- how an answer is had
