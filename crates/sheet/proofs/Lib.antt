@@ -3,3 +3,5 @@ pub mod Numbers
 pub mod Places
 pub mod Judging
 pub mod Sheets
+pub mod Apart
+pub mod Promise

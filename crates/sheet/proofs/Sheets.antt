@@ -36,7 +36,7 @@ six-joined a b c d e f =
 pub lines-joined : (k : Settings) → lineText ReceiveId (k .receive) ++ lineText TransmitId (k .transmit) ++ lineText Speed (k .speed) ++ lineText Voltage (k .voltage) ++ lineText WarningLevel (k .warning) ++ lineText FaultLevel (k .fault) ≡ sheetText k
 lines-joined k = six-joined (lineText ReceiveId (k .receive)) (lineText TransmitId (k .transmit)) (lineText Speed (k .speed)) (lineText Voltage (k .voltage)) (lineText WarningLevel (k .warning)) (lineText FaultLevel (k .fault))
 
-joined-at : (n : ℕ) (ls : List (List ℕ)) → joined ls ≡ joined (take n ls) ++ joined (drop n ls)
+pub joined-at : (n : ℕ) (ls : List (List ℕ)) → joined ls ≡ joined (take n ls) ++ joined (drop n ls)
 joined-at zero ls = refl
 joined-at (suc n) [] = refl
 joined-at (suc n) (l ∷ ls) = ap (λ (t : List ℕ). l ++ t) (joined-at n ls) ∙ sym (append-assoc l (joined (take n ls)) (joined (drop n ls)))

@@ -3,3 +3,4 @@ pub mod Lines
 pub mod Number
 pub mod Sheet
 pub mod Output
+pub mod Promise

@@ -5,8 +5,8 @@
 //     reading  a sheet read, or the first line that is wrong
 //     writing  settings written into a lent buffer
 //     output   what the program writes: the sheet, or what was wrong
-pub mod line;
-pub mod number;
+mod line;
+mod number;
 pub mod output;
 pub mod reading;
 pub mod writing;

@@ -8,7 +8,7 @@ use maintenance::setting::is_legal;
 use maintenance::setting::speed_number;
 
 // Whether a sheet may hold the value.
-pub fn may_hold(setting: Setting, value: u32) -> bool
+pub(crate) fn may_hold(setting: Setting, value: u32) -> bool
     ensures { λ r. ⌜ r ≡ mayHold setting value ⌝ }
 {
     match setting {
@@ -55,7 +55,7 @@ fn spaced(out: &mut [u8], at: usize, setting: Setting, value: u32) -> usize
     figures(out, a, setting, value)
 }
 
-pub fn line(out: &mut [u8], at: usize, setting: Setting, value: u32) -> usize
+pub(crate) fn line(out: &mut [u8], at: usize, setting: Setting, value: u32) -> usize
     ensures { λ r. ⌜ Put (now (out .entry)) at (lineText setting value) r (now (out .exit)) ⌝ }
 {
     let a = name(out, at, setting);

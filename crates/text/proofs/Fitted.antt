@@ -4,17 +4,19 @@ use native.Mathlib.Nat.{zero-add}
 use native.Mathlib.Omega.{arith}
 use mathlib.Core.Path.{_≡_, refl, sym, ap, _∙_}
 use mathlib.Core.Bool.{Bool, true, false, cond}
-use mathlib.Core.List.{List, _++_}
+use mathlib.Core.List.{List, [], _∷_, _++_}
 use lib.ListN.{length, drop}
 use lib.Seq.{sets, sets-eq}
 use borrow.Author.Tests.{ltb-false}
-use Rattle.words.proofs.Tests.{false-true}
+use Rattle.words.proofs.Tests.{by-test, false-true}
 use Rattle.refusal.specs.declared.Refusal.{Refusal}
 use Rattle.refusal.specs.declared.Refusal.the-variants.{ShortBuffer}
+use Rattle.refusal.specs.Conditions.{_when_}
+use Rattle.refusal.proofs.Conditions.{pick}
 use Rattle.text.specs.declared.written.Written.{Written}
 use Rattle.text.specs.declared.written.Written.the-variants.{Text, Refused}
 use Rattle.text.specs.Put.{Put, place, lastPlace}
-use Rattle.text.specs.Written.{isShort, Fitted}
+use Rattle.text.specs.Written.{isShort, fitted, Fitted, toldText}
 use Rattle.text.proofs.Put.{place-within}
 
 -- ---- how an answer is had
@@ -34,6 +36,10 @@ text-written t held after r within fits p =
     }
 
 -- ---- what an answer says
+
+-- on paper: 12 where the buffer is short, otherwise the text
+pub fitted-told : (t : List ℕ) (room : ℕ) → toldText (fitted t room) t ≡ pick ((12 when isShort t room) ∷ []) t
+fitted-told t room = by-test (isShort t room) (λ (b : Bool). toldText (cond b (Refused ShortBuffer) (Text (length t))) t ≡ pick ((12 when b) ∷ []) t) refl refl
 
 abbrev isText : Written → Bool
 isText (Text n) = true

@@ -6,12 +6,12 @@ use native.Mathlib.Omega.{arith}
 use mathlib.Core.Path.{_≡_, refl, sym, subst, _∙_}
 use mathlib.Core.List.{List, [], _∷_, _++_}
 use lib.Dec.{ltb}
-use lib.ListN.{length, getD, take, drop, length-append, List·getD-append}
+use lib.ListN.{length, getD, length-append, List·getD-append}
 use lib.Seq.{sets-eq}
 use borrow.Author.Tests.{lt-ltb, le-ltb, ltb-true, ltb-false}
 use Rattle.words.proofs.Tests.{decided}
-use Rattle.text.specs.Figures.{figureBy, figure, hexadecimal, decimalUpTo, decimal}
-use Rattle.text.specs.Put.{Put, place, lastPlace}
+use Rattle.text.specs.Figures.{figure, hexadecimal, decimalUpTo, decimal}
+use Rattle.text.specs.Put.{Put}
 use Rattle.text.specs.Promise.{Holds, valueOf, numberFrom, Promise}
 use Rattle.text.proofs.Put.{sets-out, place-within, kept-length}
 use Rattle.text.proofs.Figures.{hexadecimal-length, decimal-length, decimal-below}

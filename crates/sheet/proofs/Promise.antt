@@ -1,0 +1,207 @@
+-- The sheet crate keeps its promise. Assumes nothing.
+use Prim.Native.Nat.{ℕ, _≤_, _<_}
+use native.Mathlib.Omega.{arith}
+use mathlib.Core.Path.{_≡_, refl, sym, ap, subst, _∙_}
+use mathlib.Core.Bool.{Bool, true, false, cond, not, _&&_}
+use mathlib.Core.List.{List, [], _∷_, _++_}
+use mathlib.Core.Logic.{_⊎_, inl, inr}
+use lib.Dec.{lit≤, lit<, leb·suc-suc}
+use lib.ListN.{length, getD, take, drop, length-append}
+use lib.Seq.{take-at}
+use borrow.Author.Tests.{le-ltb}
+use Rattle.words.proofs.Tests.{and-left, and-right}
+use Rattle.refusal.specs.declared.Refusal.{Refusal}
+use Rattle.refusal.specs.declared.Refusal.the-variants.{WrongSheet, ShortBuffer}
+use Rattle.refusal.specs.Refusals.{numberOf}
+use Rattle.refusal.specs.Conditions.{_when_}
+use Rattle.refusal.proofs.Conditions.{pick, answers}
+use Rattle.maintenance.specs.declared.setting.Setting.{Setting}
+use Rattle.maintenance.specs.declared.setting.Setting.the-variants.{ReceiveId, TransmitId, Speed, Voltage, WarningLevel, FaultLevel}
+use Rattle.maintenance.specs.declared.setting.Settings.{Settings}
+use Rattle.maintenance.specs.declared.setting.Named.{Named}
+use Rattle.maintenance.specs.declared.setting.Named.the-variants.{Unknown, Known}
+use Rattle.maintenance.specs.Settings.{accepted, speedNumber}
+use Rattle.text.specs.declared.written.Written.{Written}
+use Rattle.text.specs.declared.written.Written.the-variants.{Text, Refused as NotWritten}
+use Rattle.text.specs.Figures.{hexadecimal, decimal, decimalUpTo}
+use Rattle.text.specs.Letters.{letters}
+use Rattle.text.specs.Put.{Put}
+use Rattle.text.specs.Written.{isShort, Fitted, toldText, refusedLine}
+use Rattle.text.proofs.Figures.{lacks, lacks-append, lacks-at, hexadecimal-lacks, decimal-lacks, decimal-length}
+use Rattle.text.proofs.Fitted.{fitted-told, text-not-refused, text-stands, refused-same}
+use Rattle.sheet.specs.declared.reading.Judged.{Judged}
+use Rattle.sheet.specs.declared.reading.Judged.the-variants.{Sheet, Wrong}
+use Rattle.sheet.specs.declared.reading.SheetRead.{SheetRead}
+use Rattle.sheet.specs.declared.reading.SheetRead.the-variants.{Settings as ReadSettings, Refused}
+use Rattle.sheet.specs.Lines.{nameOf, figuresOf, lineText, mayHold}
+use Rattle.sheet.specs.Sheet.{linesOf, joined, sheetText, isLegal, IsSheet, Judges, Reads, WrittenBy, SheetWritten}
+use Rattle.sheet.specs.Output.{settingAt, expectedBy, expectedLine, outputBy, Outputs}
+use Rattle.sheet.specs.Promise.{writerConditions, Promise}
+use Rattle.sheet.proofs.Sheets.{sheet-length}
+use Rattle.sheet.proofs.Apart.{sheets-apart, one-sheet, line-most, one-judged, one-read, first-decide}
+
+-- ---- reading
+
+is-read : (s : List ℕ) (r : SheetRead) → Reads s r → (k : Settings) → IsSheet s k → r ≡ ReadSettings k
+is-read s r x k y = one-read s r (ReadSettings k) x y
+
+by-read : (s : List ℕ) (r : SheetRead) → Reads s r → (why : Refusal) → r ≡ Refused why → why ≡ WrongSheet
+by-read s r x why e = subst (λ (q : SheetRead). Reads s q) e x .0
+
+-- ---- a comma or a dot
+
+names-lack : (setting : Setting) → (lacks 44 (nameOf setting) && lacks 46 (nameOf setting)) ≡ true
+names-lack ReceiveId = refl
+names-lack TransmitId = refl
+names-lack Speed = refl
+names-lack Voltage = refl
+names-lack WarningLevel = refl
+names-lack FaultLevel = refl
+
+figures-lack : (c : ℕ) → c < 48 → (setting : Setting) (v : ℕ) → lacks c (figuresOf setting v) ≡ true
+figures-lack c h ReceiveId v = hexadecimal-lacks c 8 v h
+figures-lack c h TransmitId v = hexadecimal-lacks c 8 v h
+figures-lack c h Speed v = decimal-lacks c (speedNumber v) h
+figures-lack c h Voltage v = decimal-lacks c v h
+figures-lack c h WarningLevel v = decimal-lacks c v h
+figures-lack c h FaultLevel v = decimal-lacks c v h
+
+-- a byte below the figures that no name has, and that is no space and no line feed
+module _ (c : ℕ) (below : c < 48) (space : lacks c (32 ∷ []) ≡ true) (feed : lacks c (10 ∷ []) ≡ true) (names : (setting : Setting) → lacks c (nameOf setting) ≡ true) where
+  line-lacks : (setting : Setting) (v : ℕ) → lacks c (lineText setting v) ≡ true
+  unfolding lineText
+  line-lacks setting v =
+      lacks-append c (nameOf setting ++ (32 ∷ figuresOf setting v)) (10 ∷ [])
+      (lacks-append c (nameOf setting) (32 ∷ figuresOf setting v) (names setting) (lacks-append c (32 ∷ []) (figuresOf setting v) space (figures-lack c below setting v)))
+      feed
+
+  sheet-lacks : (k : Settings) → lacks c (sheetText k) ≡ true
+  sheet-lacks k =
+      lacks-append c (lineText ReceiveId (k .receive)) (joined (drop 1 (linesOf k))) (line-lacks ReceiveId (k .receive))
+      (lacks-append c (lineText TransmitId (k .transmit)) (joined (drop 2 (linesOf k))) (line-lacks TransmitId (k .transmit))
+      (lacks-append c (lineText Speed (k .speed)) (joined (drop 3 (linesOf k))) (line-lacks Speed (k .speed))
+      (lacks-append c (lineText Voltage (k .voltage)) (joined (drop 4 (linesOf k))) (line-lacks Voltage (k .voltage))
+      (lacks-append c (lineText WarningLevel (k .warning)) (joined (drop 5 (linesOf k))) (line-lacks WarningLevel (k .warning))
+      (lacks-append c (lineText FaultLevel (k .fault)) [] (line-lacks FaultLevel (k .fault)) refl)))))
+
+  none-there : {X : Type 0} (s : List ℕ) (k : Settings) (i : ℕ) → 1 ≤ c → IsSheet s k → getD s i 0 ≡ c → X
+  none-there s k i one x e = lacks-at c (sheetText k) (sheet-lacks k) i one (ap (λ (t : List ℕ). getD t i 0) (sym (x .same)) ∙ e)
+
+sign-refused : (s : List ℕ) (r : SheetRead) → Reads s r → (i : ℕ) → (getD s i 0 ≡ 44) ⊎ (getD s i 0 ≡ 46) → r ≡ Refused WrongSheet
+sign-refused s (Refused why) x i e = ap Refused (x .0)
+sign-refused s (ReadSettings k) x i (inl e) = none-there 44 (lit< tt) refl refl (λ t. and-left (lacks 44 (nameOf t)) _ (names-lack t)) s k i (lit≤ tt) x e
+sign-refused s (ReadSettings k) x i (inr e) = none-there 46 (lit< tt) refl refl (λ t. and-right (lacks 44 (nameOf t)) _ (names-lack t)) s k i (lit≤ tt) x e
+
+-- ---- writing
+
+told-by : (b : Bool) (k : Settings) (held : List ℕ) (r : Written) (after : List ℕ) → WrittenBy b k held r after → toldText r (sheetText k) ≡ pick ((11 when not b) ∷ (12 when isShort (sheetText k) (length held)) ∷ []) (sheetText k)
+told-by true k held r after x = ap (λ (y : Written). toldText y (sheetText k)) (x .answered) ∙ fitted-told (sheetText k) (length held)
+told-by false k held r after x = ap (λ (y : Written). toldText y (sheetText k)) (x .answered)
+
+same-by : (b : Bool) (k : Settings) (held after : List ℕ) (why : Refusal) → WrittenBy b k held (NotWritten why) after → after ≡ held
+same-by true k held after why x = refused-same (sheetText k) held after why x
+same-by false k held after why x = x .holds
+
+fitted-by : (b : Bool) (k : Settings) (held after : List ℕ) (n : ℕ) → WrittenBy b k held (Text n) after → (b ≡ true) × Fitted (sheetText k) held (Text n) after
+fitted-by true k held after n x = (refl, x)
+fitted-by false k held after n x = text-not-refused n WrongSheet (x .answered)
+
+written-fitted : (k : Settings) (held after : List ℕ) (n : ℕ) → SheetWritten k held (Text n) after → (isLegal k ≡ true) × Fitted (sheetText k) held (Text n) after
+written-fitted k held after n x = fitted-by (isLegal k) k held after n x
+
+one-by : (b : Bool) (k : Settings) (held : List ℕ) (r r′ : Written) (after after′ : List ℕ) → WrittenBy b k held r after → WrittenBy b k held r′ after′ → (r ≡ r′) × (after ≡ after′)
+one-by true k held r r′ after after′ x y = (x .answered ∙ sym (y .answered), x .holds ∙ sym (y .holds))
+one-by false k held r r′ after after′ x y = (x .answered ∙ sym (y .answered), x .holds ∙ sym (y .holds))
+
+-- legal settings in a buffer that is long enough
+room-enough : (k : Settings) → isLegal k ≡ true → (held : List ℕ) (r : Written) (after : List ℕ) → length (sheetText k) ≤ length held → SheetWritten k held r after → r ≡ Text (length (sheetText k))
+room-enough k l held r after h x =
+    subst (λ (b : Bool). WrittenBy b k held r after) l x .answered ∙ ap (λ (b : Bool). cond b (NotWritten ShortBuffer) (Text (length (sheetText k)))) (le-ltb (length held) (length (sheetText k)) h)
+
+stands : (k : Settings) (held after : List ℕ) (n : ℕ) → SheetWritten k held (Text n) after → (n ≡ length (sheetText k)) × (after ≡ sheetText k ++ drop n held)
+stands k held after n x = text-stands (sheetText k) held after n (written-fitted k held after n x .1)
+
+back : (k : Settings) (held : List ℕ) (n : ℕ) (after : List ℕ) → SheetWritten k held (Text n) after → (r : SheetRead) → Reads (take n after) r → r ≡ ReadSettings k
+back k held n after x r y =
+    let both = stands k held after n x in
+    is-read (take n after) r y k (record { legal = written-fitted k held after n x .0; same = ap (take n) (both .1) ∙ take-at (sheetText k) (drop n held) n (sym (both .0)) })
+
+back-again : (s : List ℕ) (k : Settings) → IsSheet s k → (held : List ℕ) (r : Written) (after : List ℕ) → length s ≤ length held → SheetWritten k held r after → (r ≡ Text (length s)) × (after ≡ s ++ drop (length s) held)
+back-again s k y held r after h x =
+    let long = ap length (y .same) in
+    let told = room-enough k (y .legal) held r after (omega (arith, h, long)) x ∙ ap Text (sym long) in
+    (told, stands k held after (length s) (subst (λ (q : Written). SheetWritten k held q after) told x) .1 ∙ ap (λ (t : List ℕ). t ++ drop (length s) held) (sym (y .same)))
+
+-- ---- the longest sheet
+
+longest : (k : Settings) × (isLegal k ≡ true) × (length (sheetText k) ≡ 84)
+unfolding lineText hexadecimal decimalUpTo
+longest = (record { receive = 0; transmit = 0; speed = 0x00CA0500; voltage = 65534; warning = 2147483647; fault = 2147483647 }, refl, refl)
+
+-- ---- a rating of 65535
+
+same-accepted : (k : Settings) → isLegal k ≡ accepted 65535 k
+same-accepted k =
+    ap (λ (b : Bool). mayHold ReceiveId (k .receive) && mayHold TransmitId (k .transmit) && mayHold Speed (k .speed) && b && mayHold WarningLevel (k .warning) && mayHold FaultLevel (k .fault)) (sym (leb·suc-suc (k .voltage) 65534))
+
+-- ---- the program
+
+expected-length : (n : Named) → length (expectedBy n) ≤ 130
+expected-length Unknown = lit≤ tt
+expected-length (Known ReceiveId) = lit≤ tt
+expected-length (Known TransmitId) = lit≤ tt
+expected-length (Known Speed) = lit≤ tt
+expected-length (Known Voltage) = lit≤ tt
+expected-length (Known WarningLevel) = lit≤ tt
+expected-length (Known FaultLevel) = lit≤ tt
+
+output-length : (s : List ℕ) (j : Judged) → Judges s j → length (outputBy j) ≤ 200
+output-length s (Sheet k) x = let l = sheet-length k (x .legal) in omega (arith, l)
+output-length s (Wrong n) x =
+    let r = letters "refused " ++ decimal (numberOf WrongSheet) in
+    let l : List ℕ = letters "line " ++ decimal n in
+    let first = length-append (letters "refused ") (decimal (numberOf WrongSheet)) in
+    let second = length-append r (10 ∷ []) in
+    let third = length-append (letters "line ") (decimal n) in
+    let fourth = length-append l (letters ": expected ") in
+    let fifth = length-append (l ++ letters ": expected ") (expectedBy (settingAt n)) in
+    let sixth = length-append (l ++ letters ": expected " ++ expectedBy (settingAt n)) (10 ∷ []) in
+    let all = length-append (refusedLine WrongSheet) (expectedLine n) in
+    let a = decimal-length (numberOf WrongSheet) in
+    let b = decimal-length n in
+    let c = expected-length (settingAt n) in
+    omega (arith, first, second, third, fourth, fifth, sixth, all, a, b, c)
+
+one-output : (s before : List ℕ) (n n′ : ℕ) (after after′ : List ℕ) → Outputs s before n after → Outputs s before n′ after′ → (n ≡ n′) × (after ≡ after′)
+one-output s before n n′ after after′ x y =
+    let p = subst (λ (j : Judged). Put before 0 (outputBy j) n after) (one-judged s (x .judged) (y .judged) (x .judges) (y .judges)) (x .put) in
+    (p .goes-on ∙ sym (y .put .goes-on), p .holds ∙ sym (y .put .holds))
+
+pub promise : Promise
+promise =
+    record {
+      exactly = λ s r x k. ((λ e. subst (λ (q : SheetRead). Reads s q) e x), is-read s r x k);
+      refused = by-read;
+      apart = sheets-apart;
+      comma-or-dot = sign-refused;
+      writes = λ k held r after x. record {
+        answers = answers (toldText r (sheetText k)) (writerConditions k (length held)) (sheetText k) (told-by (isLegal k) k held r after x);
+        same = λ why q. same-by (isLegal k) k held after why (subst (λ (y : Written). SheetWritten k held y after) q x);
+        text = λ n q. stands k held after n (subst (λ (y : Written). SheetWritten k held y after) q x);
+      };
+      reads-back = back;
+      writes-back = back-again;
+      bound = sheet-length;
+      reached = longest;
+      enough = λ k l held r after h x. room-enough k l held r after (let m = sheet-length k l in omega (arith, m, h)) x;
+      line = λ s n x. (x .counted, line-most s n x);
+      rating = same-accepted;
+      one = record {
+        read = one-read;
+        judged = one-judged;
+        written = λ k held r r′ after after′ x y. one-by (isLegal k) k held r r′ after after′ x y;
+        output = one-output;
+      };
+      first-bytes = first-decide;
+      program = output-length;
+    }
