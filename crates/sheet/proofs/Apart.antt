@@ -1,47 +1,37 @@
 -- No two sheets share a text, and no two answers are right of the same bytes. Assumes nothing.
 use Prim.Native.Nat.{ℕ, _+_, _-_, _≤_, _<_}
 use native.Mathlib.Omega.{arith}
-use mathlib.Core.Path.{_≡_, refl, sym, ap, _∙_}
+use mathlib.Core.Path.{_≡_, sym, ap, _∙_}
 use mathlib.Core.Bool.{true}
-use mathlib.Core.List.{List, [], _∷_, _++_, append-assoc, append-nil, append-cancel-left}
+use mathlib.Core.List.{List, [], _∷_, _++_, append-assoc, append-nil}
 use lib.Dec.{ltb}
 use lib.ListN.{length, take, drop, length-append, length-take, take-append-drop, drop-of-length-le}
 use lib.Seq.{take-all, take-take, take-append-add, take-nil, length-take-le}
 use borrow.Author.Tests.{ltb-true, ltb-false}
 use Rattle.words.proofs.Tests.{decided}
-use Rattle.maintenance.specs.declared.setting.Setting.{Setting}
 use Rattle.maintenance.specs.declared.setting.Setting.the-variants.{ReceiveId, TransmitId, Speed, Voltage, WarningLevel, FaultLevel}
 use Rattle.maintenance.specs.declared.setting.Settings.{Settings}
 use Rattle.sheet.specs.declared.reading.Judged.{Judged}
 use Rattle.sheet.specs.declared.reading.Judged.the-variants.{Sheet, Wrong}
 use Rattle.sheet.specs.declared.reading.SheetRead.{SheetRead}
 use Rattle.sheet.specs.declared.reading.SheetRead.the-variants.{Settings as ReadSettings, Refused}
-use Rattle.sheet.specs.Lines.{lineText, mayHold}
-use Rattle.sheet.specs.Number.{base, scan, isHexadecimal, widthOf}
 use Rattle.sheet.specs.Sheet.{linesOf, joined, sheetText, isLegal, IsSheet, GoesOn, FirstWrong, Judges, Reads}
-use Rattle.sheet.proofs.Numbers.{value-found}
+use Rattle.sheet_line.proofs.Promise.{promise as lines}
 use Rattle.sheet.proofs.Judging.{legal-parts}
 use Rattle.sheet.proofs.Sheets.{joined-at, sheet-not-wrong, sheet-length}
 
 -- ---- lines and sheets
 
--- two lines of a setting with anything after them: the same value, and the same after
-line-apart : (setting : Setting) (v w : ℕ) (rest rest′ : List ℕ) → mayHold setting v ≡ true → mayHold setting w ≡ true → lineText setting v ++ rest ≡ lineText setting w ++ rest′ → (v ≡ w) × (rest ≡ rest′)
-line-apart setting v w rest rest′ h h′ e =
-    let n = scan (base (isHexadecimal setting)) 0 (drop (widthOf setting) (lineText setting v ++ rest)) in
-    let same : v ≡ w = sym (value-found setting v n (lineText setting v ++ rest) rest h refl refl .1) ∙ value-found setting w n (lineText setting v ++ rest) rest′ h′ refl e .1 in
-    (same, append-cancel-left (lineText setting v) rest rest′ (e ∙ ap (λ (x : ℕ). lineText setting x ++ rest′) (sym same)))
-
 pub sheets-apart : (k m : Settings) → isLegal k ≡ true → isLegal m ≡ true → sheetText k ≡ sheetText m → k ≡ m
 sheets-apart k m l l′ e =
     let p = legal-parts k l in
     let q = legal-parts m l′ in
-    let a = line-apart ReceiveId (k .receive) (m .receive) _ _ (p .receive) (q .receive) e in
-    let b = line-apart TransmitId (k .transmit) (m .transmit) _ _ (p .transmit) (q .transmit) (a .1) in
-    let c = line-apart Speed (k .speed) (m .speed) _ _ (p .speed) (q .speed) (b .1) in
-    let d = line-apart Voltage (k .voltage) (m .voltage) _ _ (p .voltage) (q .voltage) (c .1) in
-    let f = line-apart WarningLevel (k .warning) (m .warning) _ _ (p .warning) (q .warning) (d .1) in
-    let g = line-apart FaultLevel (k .fault) (m .fault) _ _ (p .fault) (q .fault) (f .1) in
+    let a = lines .apart ReceiveId (k .receive) (m .receive) _ _ (p .receive) (q .receive) e in
+    let b = lines .apart TransmitId (k .transmit) (m .transmit) _ _ (p .transmit) (q .transmit) (a .1) in
+    let c = lines .apart Speed (k .speed) (m .speed) _ _ (p .speed) (q .speed) (b .1) in
+    let d = lines .apart Voltage (k .voltage) (m .voltage) _ _ (p .voltage) (q .voltage) (c .1) in
+    let f = lines .apart WarningLevel (k .warning) (m .warning) _ _ (p .warning) (q .warning) (d .1) in
+    let g = lines .apart FaultLevel (k .fault) (m .fault) _ _ (p .fault) (q .fault) (f .1) in
     λ i. record { receive = a .0 i; transmit = b .0 i; speed = c .0 i; voltage = d .0 i; warning = f .0 i; fault = g .0 i }
 
 pub one-sheet : (s : List ℕ) (k m : Settings) → IsSheet s k → IsSheet s m → k ≡ m

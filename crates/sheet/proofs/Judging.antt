@@ -13,9 +13,10 @@ use Rattle.words.proofs.Tests.{decided, false-true, and-left, and-right}
 use Rattle.maintenance.specs.declared.setting.Setting.{Setting}
 use Rattle.maintenance.specs.declared.setting.Setting.the-variants.{ReceiveId, TransmitId, Speed, Voltage, WarningLevel, FaultLevel}
 use Rattle.maintenance.specs.declared.setting.Settings.{Settings}
-use Rattle.sheet.specs.declared.reading.Line.{Line}
-use Rattle.sheet.specs.Lines.{lineText, mayHold}
-use Rattle.sheet.specs.Sheet.{linesOf, joined, sheetText, isLegal, IsSheet, GoesOn, FirstWrong, ReadsLine, leading}
+use Rattle.sheet_line.specs.declared.reading.Line.{Line}
+use Rattle.sheet_line.specs.Lines.{lineText, mayHold}
+use Rattle.sheet_line.specs.Reading.{ReadsLine}
+use Rattle.sheet.specs.Sheet.{linesOf, joined, sheetText, isLegal, IsSheet, GoesOn, FirstWrong, leading}
 
 -- ---- how many hold before the first that does not
 

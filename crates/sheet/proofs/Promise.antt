@@ -1,15 +1,14 @@
 -- The sheet crate keeps its promise. Assumes nothing.
-use Prim.Native.Nat.{ℕ, _≤_, _<_}
+use Prim.Native.Nat.{ℕ, _≤_}
 use native.Mathlib.Omega.{arith}
 use mathlib.Core.Path.{_≡_, refl, sym, ap, subst, _∙_}
 use mathlib.Core.Bool.{Bool, true, false, cond, not, _&&_}
 use mathlib.Core.List.{List, [], _∷_, _++_}
 use mathlib.Core.Logic.{_⊎_, inl, inr}
-use lib.Dec.{lit≤, lit<, leb·suc-suc}
+use lib.Dec.{lit≤, leb·suc-suc}
 use lib.ListN.{length, getD, take, drop, length-append}
 use lib.Seq.{take-at}
 use borrow.Author.Tests.{le-ltb}
-use Rattle.words.proofs.Tests.{and-left, and-right}
 use Rattle.refusal.specs.declared.Refusal.{Refusal}
 use Rattle.refusal.specs.declared.Refusal.the-variants.{WrongSheet, ShortBuffer}
 use Rattle.refusal.specs.Refusals.{numberOf}
@@ -27,13 +26,14 @@ use Rattle.text.specs.Figures.{hexadecimal, decimal, decimalUpTo}
 use Rattle.text.specs.Letters.{letters}
 use Rattle.text.specs.Put.{Put}
 use Rattle.text.specs.Written.{isShort, Fitted, toldText, refusedLine}
-use Rattle.text.proofs.Figures.{lacks, lacks-append, lacks-at, hexadecimal-lacks, decimal-lacks, decimal-length}
+use Rattle.text.proofs.Figures.{lacks, lacks-append, lacks-at, decimal-length}
 use Rattle.text.proofs.Fitted.{fitted-told, text-not-refused, text-stands, refused-same}
 use Rattle.sheet.specs.declared.reading.Judged.{Judged}
 use Rattle.sheet.specs.declared.reading.Judged.the-variants.{Sheet, Wrong}
 use Rattle.sheet.specs.declared.reading.SheetRead.{SheetRead}
 use Rattle.sheet.specs.declared.reading.SheetRead.the-variants.{Settings as ReadSettings, Refused}
-use Rattle.sheet.specs.Lines.{nameOf, figuresOf, lineText, mayHold}
+use Rattle.sheet_line.specs.Lines.{lineText, mayHold}
+use Rattle.sheet_line.proofs.Promise.{comma-lacks, dot-lacks}
 use Rattle.sheet.specs.Sheet.{linesOf, joined, sheetText, isLegal, IsSheet, Judges, Reads, WrittenBy, SheetWritten}
 use Rattle.sheet.specs.Output.{settingAt, expectedBy, expectedLine, outputBy, Outputs}
 use Rattle.sheet.specs.Promise.{writerConditions, Promise}
@@ -50,47 +50,22 @@ by-read s r x why e = subst (λ (q : SheetRead). Reads s q) e x .0
 
 -- ---- a comma or a dot
 
-names-lack : (setting : Setting) → (lacks 44 (nameOf setting) && lacks 46 (nameOf setting)) ≡ true
-names-lack ReceiveId = refl
-names-lack TransmitId = refl
-names-lack Speed = refl
-names-lack Voltage = refl
-names-lack WarningLevel = refl
-names-lack FaultLevel = refl
+sheet-lacks : (c : ℕ) → ((setting : Setting) (v : ℕ) → lacks c (lineText setting v) ≡ true) → (k : Settings) → lacks c (sheetText k) ≡ true
+sheet-lacks c lines k =
+    lacks-append c (lineText ReceiveId (k .receive)) (joined (drop 1 (linesOf k))) (lines ReceiveId (k .receive))
+    (lacks-append c (lineText TransmitId (k .transmit)) (joined (drop 2 (linesOf k))) (lines TransmitId (k .transmit))
+    (lacks-append c (lineText Speed (k .speed)) (joined (drop 3 (linesOf k))) (lines Speed (k .speed))
+    (lacks-append c (lineText Voltage (k .voltage)) (joined (drop 4 (linesOf k))) (lines Voltage (k .voltage))
+    (lacks-append c (lineText WarningLevel (k .warning)) (joined (drop 5 (linesOf k))) (lines WarningLevel (k .warning))
+    (lacks-append c (lineText FaultLevel (k .fault)) [] (lines FaultLevel (k .fault)) refl)))))
 
-figures-lack : (c : ℕ) → c < 48 → (setting : Setting) (v : ℕ) → lacks c (figuresOf setting v) ≡ true
-figures-lack c h ReceiveId v = hexadecimal-lacks c 8 v h
-figures-lack c h TransmitId v = hexadecimal-lacks c 8 v h
-figures-lack c h Speed v = decimal-lacks c (speedNumber v) h
-figures-lack c h Voltage v = decimal-lacks c v h
-figures-lack c h WarningLevel v = decimal-lacks c v h
-figures-lack c h FaultLevel v = decimal-lacks c v h
-
--- a byte below the figures that no name has, and that is no space and no line feed
-module _ (c : ℕ) (below : c < 48) (space : lacks c (32 ∷ []) ≡ true) (feed : lacks c (10 ∷ []) ≡ true) (names : (setting : Setting) → lacks c (nameOf setting) ≡ true) where
-  line-lacks : (setting : Setting) (v : ℕ) → lacks c (lineText setting v) ≡ true
-  unfolding lineText
-  line-lacks setting v =
-      lacks-append c (nameOf setting ++ (32 ∷ figuresOf setting v)) (10 ∷ [])
-      (lacks-append c (nameOf setting) (32 ∷ figuresOf setting v) (names setting) (lacks-append c (32 ∷ []) (figuresOf setting v) space (figures-lack c below setting v)))
-      feed
-
-  sheet-lacks : (k : Settings) → lacks c (sheetText k) ≡ true
-  sheet-lacks k =
-      lacks-append c (lineText ReceiveId (k .receive)) (joined (drop 1 (linesOf k))) (line-lacks ReceiveId (k .receive))
-      (lacks-append c (lineText TransmitId (k .transmit)) (joined (drop 2 (linesOf k))) (line-lacks TransmitId (k .transmit))
-      (lacks-append c (lineText Speed (k .speed)) (joined (drop 3 (linesOf k))) (line-lacks Speed (k .speed))
-      (lacks-append c (lineText Voltage (k .voltage)) (joined (drop 4 (linesOf k))) (line-lacks Voltage (k .voltage))
-      (lacks-append c (lineText WarningLevel (k .warning)) (joined (drop 5 (linesOf k))) (line-lacks WarningLevel (k .warning))
-      (lacks-append c (lineText FaultLevel (k .fault)) [] (line-lacks FaultLevel (k .fault)) refl)))))
-
-  none-there : {X : Type 0} (s : List ℕ) (k : Settings) (i : ℕ) → 1 ≤ c → IsSheet s k → getD s i 0 ≡ c → X
-  none-there s k i one x e = lacks-at c (sheetText k) (sheet-lacks k) i one (ap (λ (t : List ℕ). getD t i 0) (sym (x .same)) ∙ e)
+none-there : {X : Type 0} (c : ℕ) → ((setting : Setting) (v : ℕ) → lacks c (lineText setting v) ≡ true) → (s : List ℕ) (k : Settings) (i : ℕ) → 1 ≤ c → IsSheet s k → getD s i 0 ≡ c → X
+none-there c lines s k i one x e = lacks-at c (sheetText k) (sheet-lacks c lines k) i one (ap (λ (t : List ℕ). getD t i 0) (sym (x .same)) ∙ e)
 
 sign-refused : (s : List ℕ) (r : SheetRead) → Reads s r → (i : ℕ) → (getD s i 0 ≡ 44) ⊎ (getD s i 0 ≡ 46) → r ≡ Refused WrongSheet
 sign-refused s (Refused why) x i e = ap Refused (x .0)
-sign-refused s (ReadSettings k) x i (inl e) = none-there 44 (lit< tt) refl refl (λ t. and-left (lacks 44 (nameOf t)) _ (names-lack t)) s k i (lit≤ tt) x e
-sign-refused s (ReadSettings k) x i (inr e) = none-there 46 (lit< tt) refl refl (λ t. and-right (lacks 44 (nameOf t)) _ (names-lack t)) s k i (lit≤ tt) x e
+sign-refused s (ReadSettings k) x i (inl e) = none-there 44 comma-lacks s k i (lit≤ tt) x e
+sign-refused s (ReadSettings k) x i (inr e) = none-there 46 dot-lacks s k i (lit≤ tt) x e
 
 -- ---- writing
 

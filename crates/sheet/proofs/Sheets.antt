@@ -1,26 +1,21 @@
 -- The text of a sheet: its lines one after another, and how long it is. Assumes nothing.
-use Prim.Native.Nat.{ℕ, zero, suc, _+_, _≤_, _<_}
+use Prim.Native.Nat.{ℕ, zero, suc, _≤_, _<_}
 use native.Mathlib.Omega.{arith}
 use mathlib.Core.Path.{_≡_, refl, sym, ap, subst, _∙_}
 use mathlib.Core.Bool.{Bool, true, false}
 use mathlib.Core.List.{List, [], _∷_, _++_, append-assoc, append-nil}
 use lib.ListN.{length, take, drop, length-append, drop-of-length-le}
-use borrow.Author.Tests.{leb-true, le-ltb, lt-ltb}
+use borrow.Author.Tests.{le-ltb, lt-ltb}
 use Rattle.refusal.specs.declared.Refusal.the-variants.{WrongSheet, ShortBuffer}
-use Rattle.maintenance.specs.declared.setting.Setting.{Setting}
 use Rattle.maintenance.specs.declared.setting.Setting.the-variants.{ReceiveId, TransmitId, Speed, Voltage, WarningLevel, FaultLevel}
 use Rattle.maintenance.specs.declared.setting.Settings.{Settings}
-use Rattle.maintenance.specs.Settings.{speedNumber}
-use Rattle.maintenance.proofs.Settings.{speed-below}
 use Rattle.text.specs.declared.written.Written.the-variants.{Text, Refused}
 use Rattle.text.specs.Put.{Put}
-use Rattle.text.proofs.Figures.{hexadecimal-length, decimal-length, decimal-below}
 use Rattle.text.proofs.Put.{put-as}
-use Rattle.text.proofs.Fitted.{short-refused, text-written}
-use Rattle.sheet.specs.Lines.{figuresOf, lineText, mayHold}
-use Rattle.sheet.specs.Number.{widthOf}
+use Rattle.text.proofs.Fitted.{short-refused, text-written, text-at-start}
+use Rattle.sheet_line.specs.Lines.{lineText}
 use Rattle.sheet.specs.Sheet.{linesOf, joined, sheetText, isLegal, IsSheet, GoesOn, FirstWrong, WrittenBy, SheetWritten}
-use Rattle.sheet.proofs.Places.{line-length, text-at-start}
+use Rattle.sheet_line.proofs.Promise.{promise as lines}
 use Rattle.sheet.proofs.Judging.{legal-parts}
 
 -- ---- lines one after another
@@ -58,35 +53,15 @@ sheet-not-wrong s k n x w = w .wrong (sheet-goes-on s k n x)
 
 -- ---- how long a sheet is
 
--- the longest line of a setting
-abbrev pub mostOf : Setting → ℕ
-mostOf ReceiveId = 12
-mostOf TransmitId = 12
-mostOf Speed = 10
-mostOf Voltage = 14
-mostOf WarningLevel = 19
-mostOf FaultLevel = 17
-
-few-figures : (setting : Setting) (v : ℕ) → mayHold setting v ≡ true → widthOf setting + length (figuresOf setting v) + 1 ≤ mostOf setting
-few-figures ReceiveId v h = let l = hexadecimal-length 8 v in omega (arith, l)
-few-figures TransmitId v h = let l = hexadecimal-length 8 v in omega (arith, l)
-few-figures Speed v h = let l = decimal-below 2 (speedNumber v) (speed-below v) in omega (arith, l)
-few-figures Voltage v h = let b = leb-true v 65534 h in let l = decimal-below 4 v (let g : v < 100000 = omega (arith, b) in g) in omega (arith, l)
-few-figures WarningLevel v h = let l = decimal-length v in omega (arith, l)
-few-figures FaultLevel v h = let l = decimal-length v in omega (arith, l)
-
-line-most : (setting : Setting) (v : ℕ) → mayHold setting v ≡ true → length (lineText setting v) ≤ mostOf setting
-line-most setting v h = let l = line-length setting v in let m = few-figures setting v h in omega (arith, l, m)
-
 pub sheet-length : (k : Settings) → isLegal k ≡ true → length (sheetText k) ≤ 84
 sheet-length k legal =
     let p = legal-parts k legal in
-    let a = line-most ReceiveId (k .receive) (p .receive) in
-    let b = line-most TransmitId (k .transmit) (p .transmit) in
-    let c = line-most Speed (k .speed) (p .speed) in
-    let d = line-most Voltage (k .voltage) (p .voltage) in
-    let e = line-most WarningLevel (k .warning) (p .warning) in
-    let f = line-most FaultLevel (k .fault) (p .fault) in
+    let a = lines .bound ReceiveId (k .receive) (p .receive) in
+    let b = lines .bound TransmitId (k .transmit) (p .transmit) in
+    let c = lines .bound Speed (k .speed) (p .speed) in
+    let d = lines .bound Voltage (k .voltage) (p .voltage) in
+    let e = lines .bound WarningLevel (k .warning) (p .warning) in
+    let f = lines .bound FaultLevel (k .fault) (p .fault) in
     let a′ = length-append (lineText ReceiveId (k .receive)) (joined (drop 1 (linesOf k))) in
     let b′ = length-append (lineText TransmitId (k .transmit)) (joined (drop 2 (linesOf k))) in
     let c′ = length-append (lineText Speed (k .speed)) (joined (drop 3 (linesOf k))) in

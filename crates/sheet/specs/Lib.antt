@@ -1,6 +1,4 @@
--- What the sheet crate speaks of: the lines of a sheet, sheets, and what is answered of them. What it promises is in `Promise`.
-pub mod Lines
-pub mod Number
+-- What the sheet crate speaks of: sheets, what is answered of them, and what the program writes. What it promises is in `Promise`.
 pub mod Sheet
 pub mod Output
 pub mod Promise

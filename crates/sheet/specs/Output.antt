@@ -15,7 +15,7 @@ use Rattle.text.specs.Put.{Put}
 use Rattle.text.specs.Written.{refusedLine}
 use Rattle.sheet.specs.declared.reading.Judged.{Judged}
 use Rattle.sheet.specs.declared.reading.Judged.the-variants.{Sheet, Wrong}
-use Rattle.sheet.specs.Lines.{nameOf}
+use Rattle.sheet_line.specs.Lines.{nameOf}
 use Rattle.sheet.specs.Sheet.{sheetText, Judges}
 
 -- the line of a setting, counted from 1

@@ -3,7 +3,7 @@ use Prim.Native.Nat.{ℕ, suc, _-_, _≤_, _<_}
 use mathlib.Core.Path.{_≡_}
 use mathlib.Core.Bool.{Bool, true, false, _&&_}
 use mathlib.Core.List.{List, [], _∷_, _++_}
-use lib.ListN.{length, take, drop}
+use lib.ListN.{take}
 use Rattle.refusal.specs.declared.Refusal.{Refusal}
 use Rattle.refusal.specs.declared.Refusal.the-variants.{WrongSheet}
 use Rattle.maintenance.specs.declared.setting.Setting.{Setting}
@@ -11,12 +11,11 @@ use Rattle.maintenance.specs.declared.setting.Setting.the-variants.{ReceiveId, 
 use Rattle.maintenance.specs.declared.setting.Settings.{Settings}
 use Rattle.text.specs.declared.written.Written.{Written}
 use Rattle.text.specs.Written.{Fitted, NotWritten}
-use Rattle.sheet.specs.declared.reading.Line.{Line}
 use Rattle.sheet.specs.declared.reading.Judged.{Judged}
 use Rattle.sheet.specs.declared.reading.Judged.the-variants.{Sheet, Wrong}
 use Rattle.sheet.specs.declared.reading.SheetRead.{SheetRead}
 use Rattle.sheet.specs.declared.reading.SheetRead.the-variants.{Settings as ReadSettings, Refused}
-use Rattle.sheet.specs.Lines.{lineText, mayHold}
+use Rattle.sheet_line.specs.Lines.{lineText, mayHold}
 
 -- ---- the text of settings
 
@@ -88,13 +87,7 @@ WrittenBy false k held answer after = NotWritten WrongSheet held answer after
 abbrev pub SheetWritten : Settings → List ℕ → Written → List ℕ → Type 0
 SheetWritten k held answer after = WrittenBy (isLegal k) k held answer after
 
--- ---- a line read at its place
-
-pub record ReadsLine (setting : Setting) (s : List ℕ) (at : ℕ) (r : Line) : Type 0 where
-  pub legal : mayHold setting (r .value) ≡ true
-  pub within : r .next ≤ length s
-  pub same : r .right ≡ true → drop at s ≡ lineText setting (r .value) ++ drop (r .next) s
-  pub found : (v : ℕ) (rest : List ℕ) → mayHold setting v ≡ true → drop at s ≡ lineText setting v ++ rest → (r .right ≡ true) × (drop (r .next) s ≡ rest)
+-- ---- how far the lines are right
 
 -- how many of a row hold before the first that does not
 abbrev pub leading : List Bool → ℕ

@@ -3,13 +3,13 @@ ghost use mathlib.Core.Path.{_≡_};
 ghost use Rattle.maintenance.specs.declared.setting.Named.the-variants.{Known};
 ghost use Rattle.text.specs.Put.{Put};
 ghost use Rattle.sheet.specs.Output.{settingAt, valueWords, expectedBy, expectedLine, Outputs};
-use crate::line::name;
 use crate::reading::Judged;
 use crate::reading::judge;
 use crate::writing::sheet;
 use maintenance::setting::Named;
 use maintenance::setting::Setting;
 use refusal::Refusal;
+use sheet_line::line::name;
 use text::written::refused_line;
 
 // The setting of a line, counted from 1.

@@ -2,11 +2,11 @@
 ghost use mathlib.Core.Path.{_≡_};
 ghost use Rattle.text.specs.Put.{Put};
 ghost use Rattle.sheet.specs.Sheet.{isLegal, sheetText, SheetWritten};
-use crate::line::line;
-use crate::line::may_hold;
 use maintenance::setting::Setting;
 use maintenance::setting::Settings;
 use refusal::Refusal;
+use sheet_line::line::line;
+use sheet_line::line::may_hold;
 use text::written::Written;
 
 // Whether a sheet may hold the settings.

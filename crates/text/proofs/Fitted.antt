@@ -1,12 +1,12 @@
 -- The answer and the buffer, where a text fits and where it does not. Assumes nothing.
-use Prim.Native.Nat.{ℕ, _≤_}
+use Prim.Native.Nat.{ℕ, _+_, _≤_}
 use native.Mathlib.Nat.{zero-add}
 use native.Mathlib.Omega.{arith}
 use mathlib.Core.Path.{_≡_, refl, sym, ap, _∙_}
 use mathlib.Core.Bool.{Bool, true, false, cond}
 use mathlib.Core.List.{List, [], _∷_, _++_}
-use lib.ListN.{length, drop}
-use lib.Seq.{sets, sets-eq}
+use lib.ListN.{length, take, drop}
+use lib.Seq.{sets, sets-eq, take-at}
 use borrow.Author.Tests.{ltb-false}
 use Rattle.words.proofs.Tests.{by-test, false-true}
 use Rattle.refusal.specs.declared.Refusal.{Refusal}
@@ -86,4 +86,13 @@ text-stands t held after n x =
     let fits = ltb-false (length held) (length t) (all .0) in (
       all .1,
       all .2 ∙ sets-eq t held 0 (omega (arith, fits)) ∙ ap (λ (k : ℕ). t ++ drop k held) (zero-add (length t) ∙ sym (all .1)),
+    )
+
+-- ---- a text put into an array that is long enough
+
+pub text-at-start : (d e t : List ℕ) (n : ℕ) → length t ≤ length d → length d ≤ lastPlace → Put d 0 t n e → (n ≡ length t) × (take n e ≡ t)
+text-at-start d e t n fits small p =
+    let same : n ≡ length t = p .goes-on ∙ ap place (zero-add (length t)) ∙ place-within (length t) (omega (arith, fits, small)) in (
+      same,
+      ap (take n) (p .holds ∙ sets-eq t d 0 (omega (arith, fits))) ∙ take-at t (drop (0 + length t) d) n (sym same),
     )

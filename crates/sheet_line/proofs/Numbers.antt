@@ -1,0 +1,129 @@
+-- The value of a line is found again from its figures. Assumes nothing.
+use Prim.Native.Nat.{ℕ, suc, _+_, _*_, _≤_, _<_}
+use native.Mathlib.Nat.{le-refl}
+use native.Mathlib.Omega.{arith}
+use mathlib.Core.Path.{_≡_, refl, sym, ap, subst, _∙_}
+use mathlib.Core.Bool.{Bool, true, false, cond, not, _||_}
+use mathlib.Core.List.{List, [], _∷_, _++_, append-assoc}
+use lib.Dec.{eqb, leb, lit<}
+use lib.ListN.{length, getD, drop, drop-of-length-le}
+use lib.Seq.{drop-cons}
+use borrow.Author.Tests.{not-true, lt-leb, leb-true, eqb-true}
+use Rattle.words.proofs.Tests.{decided, by-test, and-left, and-right}
+use Rattle.maintenance.specs.declared.setting.Setting.{Setting}
+use Rattle.maintenance.specs.declared.setting.Setting.the-variants.{ReceiveId, TransmitId, Speed, Voltage, WarningLevel, FaultLevel}
+use Rattle.maintenance.specs.Settings.{speedNumber}
+use Rattle.text.specs.Figures.{hexadecimal, decimal}
+use Rattle.text.specs.Promise.{valueOf, numberFrom}
+use Rattle.text.proofs.Figures.{lacks, hexadecimal-lacks, decimal-lacks}
+use Rattle.text.proofs.Promise.{promise as text}
+use Rattle.sheet_line.specs.Lines.{lineText, mayHold}
+use Rattle.sheet_line.specs.Number.{base, scan, isHexadecimal, widthOf, valueFor}
+
+-- ---- figure by figure
+
+scan-none : (b n : ℕ) → scan b n [] ≡ n
+unfolding scan
+scan-none b n = refl
+
+scan-ends : (b n c : ℕ) (cs : List ℕ) → (eqb c 10 || leb 2147483648 n) ≡ true → scan b n (c ∷ cs) ≡ n
+unfolding scan
+scan-ends b n c cs e = ap (λ (t : Bool). cond t n (scan b (n * b + valueOf c) cs)) e
+
+scan-more : (b n c : ℕ) (cs : List ℕ) → (eqb c 10 || leb 2147483648 n) ≡ false → scan b n (c ∷ cs) ≡ scan b (n * b + valueOf c) cs
+unfolding scan
+scan-more b n c cs e = ap (λ (t : Bool). cond t n (scan b (n * b + valueOf c) cs)) e
+
+pub past-end : (b n i : ℕ) (s : List ℕ) → length s ≤ i → scan b n (drop i s) ≡ n
+past-end b n i s h = ap (scan b n) (drop-of-length-le s h) ∙ scan-none b n
+
+pub at-end : (b n i : ℕ) (s : List ℕ) → i < length s → (eqb (getD s i 0) 10 || leb 2147483648 n) ≡ true → scan b n (drop i s) ≡ n
+at-end b n i s h e = ap (scan b n) (drop-cons s i 0 h) ∙ scan-ends b n (getD s i 0) (drop (suc i) s) e
+
+pub one-on : (b n i : ℕ) (s : List ℕ) → i < length s → (eqb (getD s i 0) 10 || leb 2147483648 n) ≡ false → scan b n (drop i s) ≡ scan b (n * b + valueOf (getD s i 0)) (drop (i + 1) s)
+one-on b n i s h e =
+    ap (scan b n) (drop-cons s i 0 h)
+    ∙ scan-more b n (getD s i 0) (drop (suc i) s) e
+    ∙ ap (λ (k : ℕ). scan b (n * b + valueOf (getD s i 0)) (drop k s)) (let q : suc i ≡ i + 1 = omega arith in q)
+
+-- ---- a row of figures
+
+larger : (h : Bool) (n v : ℕ) → n ≤ n * base h + v
+larger true n v = omega arith
+larger false n v = omega arith
+
+grows : (h : Bool) (n : ℕ) (figs : List ℕ) → n ≤ numberFrom (base h) n figs
+grows h n [] = le-refl n
+grows h n (c ∷ cs) = let one = larger h n (valueOf c) in let rest = grows h (n * base h + valueOf c) cs in omega (arith, one, rest)
+
+scan-figures : (h : Bool) (n : ℕ) (figs rest : List ℕ) → lacks 10 figs ≡ true → numberFrom (base h) n figs < 2147483648 → scan (base h) n (figs ++ (10 ∷ rest)) ≡ numberFrom (base h) n figs
+scan-figures h n [] rest l small = scan-ends (base h) n 10 rest refl
+scan-figures h n (c ∷ cs) rest l small =
+    let other = not-true (eqb c 10) (and-left (not (eqb c 10)) (lacks 10 cs) l) in
+    let below : n < 2147483648 = (let g = grows h n (c ∷ cs) in omega (arith, g, small)) in
+    scan-more (base h) n c (cs ++ (10 ∷ rest)) (rw (other, lt-leb 2147483648 n below) refl)
+    ∙ scan-figures h (n * base h + valueOf c) cs rest (and-right (not (eqb c 10)) (lacks 10 cs) l) small
+
+-- a number below 2147483648 is found
+found : (h : Bool) (n : ℕ) (figs rest : List ℕ) → lacks 10 figs ≡ true → numberFrom (base h) 0 figs ≡ n → n < 2147483648 → scan (base h) 0 (figs ++ (10 ∷ []) ++ rest) ≡ n
+found h n figs rest l q small =
+    ap (scan (base h) 0) (append-assoc figs (10 ∷ []) rest)
+    ∙ scan-figures h 0 figs rest l (subst (λ (k : ℕ). k < 2147483648) (sym q) small)
+    ∙ q
+
+-- ---- the value of a line
+
+-- the number that a line shows
+abbrev pub shown : Setting → ℕ → ℕ
+shown ReceiveId v = v
+shown TransmitId v = v
+shown Speed v = speedNumber v
+shown Voltage v = v
+shown WarningLevel v = v
+shown FaultLevel v = v
+
+shown-small : (setting : Setting) (v : ℕ) → mayHold setting v ≡ true → shown setting v < 2147483648
+shown-small ReceiveId v l = let h = leb-true v 0x1FFFFFFF l in omega (arith, h)
+shown-small TransmitId v l = let h = leb-true v 0x1FFFFFFF l in omega (arith, h)
+shown-small Speed v l = by-test (eqb v 0x00CA0250) (λ (b : Bool). cond b 250 500 < 2147483648) (lit< tt) (lit< tt)
+shown-small Voltage v l = let h = leb-true v 65534 l in omega (arith, h)
+shown-small WarningLevel v l = let h = leb-true v 2147483647 (and-right (leb 1 v) _ l) in omega (arith, h)
+shown-small FaultLevel v l = let h = leb-true v 2147483647 (and-right (leb 1 v) _ l) in omega (arith, h)
+
+hex-found : (n : ℕ) (rest : List ℕ) → n < 2147483648 → scan 16 0 (hexadecimal 8 n ++ (10 ∷ []) ++ rest) ≡ n
+hex-found n rest small =
+    found true n (hexadecimal 8 n) rest (hexadecimal-lacks 10 8 n (lit< tt)) (text .hexadecimal-number 8 n (let h : n < 4294967296 = omega (arith, small) in h)) small
+
+decimal-found : (n : ℕ) (rest : List ℕ) → n < 2147483648 → scan 10 0 (decimal n ++ (10 ∷ []) ++ rest) ≡ n
+decimal-found n rest small =
+    found false n (decimal n) rest (decimal-lacks 10 n (lit< tt)) (text .decimal-number n (let h : n < 4294967296 = omega (arith, small) in h)) small
+
+scan-line : (setting : Setting) (v : ℕ) (rest : List ℕ) → shown setting v < 2147483648 → scan (base (isHexadecimal setting)) 0 (drop (widthOf setting) (lineText setting v ++ rest)) ≡ shown setting v
+unfolding lineText
+scan-line ReceiveId v rest small = hex-found v rest small
+scan-line TransmitId v rest small = hex-found v rest small
+scan-line Speed v rest small = decimal-found (speedNumber v) rest small
+scan-line Voltage v rest small = decimal-found v rest small
+scan-line WarningLevel v rest small = decimal-found v rest small
+scan-line FaultLevel v rest small = decimal-found v rest small
+
+speed-back : (v : ℕ) → (eqb v 0x00CA0250 || eqb v 0x00CA0500) ≡ true → cond (eqb (speedNumber v) 250) 0x00CA0250 0x00CA0500 ≡ v
+speed-back v l =
+    decided (eqb v 0x00CA0250)
+    (λ t. ap (λ (b : Bool). cond (eqb (cond b 250 500) 250) 0x00CA0250 0x00CA0500) t ∙ sym (eqb-true v 0x00CA0250 t))
+    (λ t. ap (λ (b : Bool). cond (eqb (cond b 250 500) 250) 0x00CA0250 0x00CA0500) t ∙ sym (eqb-true v 0x00CA0500 (sym (ap (λ (b : Bool). b || eqb v 0x00CA0500) t) ∙ l)))
+
+value-back : (setting : Setting) (v : ℕ) → mayHold setting v ≡ true → valueFor setting (shown setting v) ≡ v
+value-back ReceiveId v l = refl
+value-back TransmitId v l = refl
+value-back Speed v l = speed-back v l
+value-back Voltage v l = refl
+value-back WarningLevel v l = refl
+value-back FaultLevel v l = refl
+
+-- the value is found, whatever follows the line
+pub value-found : (setting : Setting) (v n : ℕ) (s rest : List ℕ) → mayHold setting v ≡ true → n ≡ scan (base (isHexadecimal setting)) 0 (drop (widthOf setting) s) → s ≡ lineText setting v ++ rest → (n < 2147483648) × (valueFor setting n ≡ v)
+value-found setting v n s rest l q e =
+    let small = shown-small setting v l in
+    let same : n ≡ shown setting v = q ∙ ap (λ (t : List ℕ). scan (base (isHexadecimal setting)) 0 (drop (widthOf setting) t)) e ∙ scan-line setting v rest small in
+    (subst (λ (k : ℕ). k < 2147483648) (sym same) small, ap (valueFor setting) same ∙ value-back setting v l)
