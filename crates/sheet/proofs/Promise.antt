@@ -9,17 +9,18 @@ use lib.Dec.{lit≤, leb·suc-suc}
 use lib.ListN.{length, getD, take, drop, length-append}
 use lib.Seq.{take-at}
 use borrow.Author.Tests.{le-ltb}
+use Rattle.words.proofs.Tests.{false-true}
 use Rattle.refusal.specs.declared.Refusal.{Refusal}
 use Rattle.refusal.specs.declared.Refusal.the-variants.{WrongSheet, ShortBuffer}
 use Rattle.refusal.specs.Refusals.{numberOf}
-use Rattle.refusal.specs.Conditions.{_when_}
+use Rattle.refusal.specs.Conditions.{_when_, Told, refusal, answer}
 use Rattle.refusal.proofs.Conditions.{pick, answers}
 use Rattle.maintenance.specs.declared.setting.Setting.{Setting}
 use Rattle.maintenance.specs.declared.setting.Setting.the-variants.{ReceiveId, TransmitId, Speed, Voltage, WarningLevel, FaultLevel}
 use Rattle.maintenance.specs.declared.setting.Settings.{Settings}
 use Rattle.maintenance.specs.declared.setting.Named.{Named}
 use Rattle.maintenance.specs.declared.setting.Named.the-variants.{Unknown, Known}
-use Rattle.maintenance.specs.Settings.{accepted, speedNumber}
+use Rattle.maintenance.specs.Settings.{accepted}
 use Rattle.text.specs.declared.written.Written.{Written}
 use Rattle.text.specs.declared.written.Written.the-variants.{Text, Refused as NotWritten}
 use Rattle.text.specs.Figures.{hexadecimal, decimal, decimalUpTo}
@@ -36,17 +37,38 @@ use Rattle.sheet_line.specs.Lines.{lineText, mayHold}
 use Rattle.sheet_line.proofs.Promise.{comma-lacks, dot-lacks}
 use Rattle.sheet.specs.Sheet.{linesOf, joined, sheetText, isLegal, IsSheet, Judges, Reads, WrittenBy, SheetWritten}
 use Rattle.sheet.specs.Output.{settingAt, expectedBy, expectedLine, outputBy, Outputs}
-use Rattle.sheet.specs.Promise.{writerConditions, Promise}
+use Rattle.sheet.specs.Promise.{toldRead, writerConditions, Promise}
 use Rattle.sheet.proofs.Sheets.{sheet-length}
-use Rattle.sheet.proofs.Apart.{sheets-apart, one-sheet, line-most, one-judged, one-read, first-decide}
+use Rattle.sheet.proofs.Apart.{sheets-apart, line-most, one-judged, one-read, first-decide}
 
 -- ---- reading
+
+abbrev isAnswer : Told Settings → Bool
+isAnswer (answer k) = true
+isAnswer (refusal n) = false
+
+abbrev settingsOr : Settings → Told Settings → Settings
+settingsOr m (answer k) = k
+settingsOr m (refusal n) = m
+
+abbrev numberOr : Told Settings → ℕ
+numberOr (answer k) = 0
+numberOr (refusal n) = n
 
 is-read : (s : List ℕ) (r : SheetRead) → Reads s r → (k : Settings) → IsSheet s k → r ≡ ReadSettings k
 is-read s r x k y = one-read s r (ReadSettings k) x y
 
-by-read : (s : List ℕ) (r : SheetRead) → Reads s r → (why : Refusal) → r ≡ Refused why → why ≡ WrongSheet
-by-read s r x why e = subst (λ (q : SheetRead). Reads s q) e x .0
+told-accepted : (s : List ℕ) (r : SheetRead) → Reads s r → (k : Settings) → toldRead r ≡ answer k → IsSheet s k
+told-accepted s (ReadSettings m) x k e = subst (λ (y : Settings). IsSheet s y) (ap (settingsOr m) e) x
+told-accepted s (Refused why) x k e = false-true (sym (ap isAnswer e))
+
+told-refused : (s : List ℕ) (r : SheetRead) → Reads s r → (n : ℕ) → toldRead r ≡ refusal n → (n ≡ 11) × ((k : Settings) → IsSheet s k → ⊥)
+told-refused s (ReadSettings m) x n e = false-true (ap isAnswer e)
+told-refused s (Refused why) x n e = (sym (ap numberOr e) ∙ ap numberOf (x .0), x .1)
+
+no-sheet : (s : List ℕ) (r : SheetRead) → Reads s r → ((k : Settings) → IsSheet s k → ⊥) → toldRead r ≡ refusal 11
+no-sheet s (ReadSettings m) x none = absurd (none m x)
+no-sheet s (Refused why) x none = ap (λ (w : Refusal). toldRead (Refused w)) (x .0)
 
 -- ---- a comma or a dot
 
@@ -62,10 +84,9 @@ sheet-lacks c lines k =
 none-there : {X : Type 0} (c : ℕ) → ((setting : Setting) (v : ℕ) → lacks c (lineText setting v) ≡ true) → (s : List ℕ) (k : Settings) (i : ℕ) → 1 ≤ c → IsSheet s k → getD s i 0 ≡ c → X
 none-there c lines s k i one x e = lacks-at c (sheetText k) (sheet-lacks c lines k) i one (ap (λ (t : List ℕ). getD t i 0) (sym (x .same)) ∙ e)
 
-sign-refused : (s : List ℕ) (r : SheetRead) → Reads s r → (i : ℕ) → (getD s i 0 ≡ 44) ⊎ (getD s i 0 ≡ 46) → r ≡ Refused WrongSheet
-sign-refused s (Refused why) x i e = ap Refused (x .0)
-sign-refused s (ReadSettings k) x i (inl e) = none-there 44 comma-lacks s k i (lit≤ tt) x e
-sign-refused s (ReadSettings k) x i (inr e) = none-there 46 dot-lacks s k i (lit≤ tt) x e
+sign-refused : (s : List ℕ) (r : SheetRead) → Reads s r → (i : ℕ) → (getD s i 0 ≡ 44) ⊎ (getD s i 0 ≡ 46) → toldRead r ≡ refusal 11
+sign-refused s r x i (inl e) = no-sheet s r x (λ k y. none-there 44 comma-lacks s k i (lit≤ tt) y e)
+sign-refused s r x i (inr e) = no-sheet s r x (λ k y. none-there 46 dot-lacks s k i (lit≤ tt) y e)
 
 -- ---- writing
 
@@ -96,10 +117,10 @@ room-enough k l held r after h x =
 stands : (k : Settings) (held after : List ℕ) (n : ℕ) → SheetWritten k held (Text n) after → (n ≡ length (sheetText k)) × (after ≡ sheetText k ++ drop n held)
 stands k held after n x = text-stands (sheetText k) held after n (written-fitted k held after n x .1)
 
-back : (k : Settings) (held : List ℕ) (n : ℕ) (after : List ℕ) → SheetWritten k held (Text n) after → (r : SheetRead) → Reads (take n after) r → r ≡ ReadSettings k
+back : (k : Settings) (held : List ℕ) (n : ℕ) (after : List ℕ) → SheetWritten k held (Text n) after → (r : SheetRead) → Reads (take n after) r → toldRead r ≡ answer k
 back k held n after x r y =
     let both = stands k held after n x in
-    is-read (take n after) r y k (record { legal = written-fitted k held after n x .0; same = ap (take n) (both .1) ∙ take-at (sheetText k) (drop n held) n (sym (both .0)) })
+    ap toldRead (is-read (take n after) r y k (record { legal = written-fitted k held after n x .0; same = ap (take n) (both .1) ∙ take-at (sheetText k) (drop n held) n (sym (both .0)) }))
 
 back-again : (s : List ℕ) (k : Settings) → IsSheet s k → (held : List ℕ) (r : Written) (after : List ℕ) → length s ≤ length held → SheetWritten k held r after → (r ≡ Text (length s)) × (after ≡ s ++ drop (length s) held)
 back-again s k y held r after h x =
@@ -155,8 +176,8 @@ one-output s before n n′ after after′ x y =
 pub promise : Promise
 promise =
     record {
-      exactly = λ s r x k. ((λ e. subst (λ (q : SheetRead). Reads s q) e x), is-read s r x k);
-      refused = by-read;
+      accepted-exactly = λ s r x k. (told-accepted s r x k, (λ y. ap toldRead (is-read s r x k y)));
+      refused-exactly = λ s r x n. (told-refused s r x n, (λ e. no-sheet s r x (e .1) ∙ ap refusal (sym (e .0))));
       apart = sheets-apart;
       comma-or-dot = sign-refused;
       writes = λ k held r after x. record {

@@ -6,8 +6,8 @@ use mathlib.Core.List.{List, [], _∷_, _++_}
 use mathlib.Core.Logic.{_↔_, _⊎_}
 use lib.ListN.{length, getD, take, drop}
 use Rattle.refusal.specs.declared.Refusal.{Refusal}
-use Rattle.refusal.specs.declared.Refusal.the-variants.{WrongSheet}
-use Rattle.refusal.specs.Conditions.{Condition, _when_, Answers}
+use Rattle.refusal.specs.Refusals.{numberOf}
+use Rattle.refusal.specs.Conditions.{Condition, _when_, Told, refusal, answer, Answers}
 use Rattle.maintenance.specs.declared.setting.Settings.{Settings}
 use Rattle.maintenance.specs.Settings.{accepted}
 use Rattle.text.specs.declared.written.Written.{Written}
@@ -18,6 +18,11 @@ use Rattle.sheet.specs.declared.reading.SheetRead.{SheetRead}
 use Rattle.sheet.specs.declared.reading.SheetRead.the-variants.{Settings as ReadSettings, Refused}
 use Rattle.sheet.specs.Sheet.{sheetText, isLegal, IsSheet, FirstWrong, Judges, Reads, SheetWritten}
 use Rattle.sheet.specs.Output.{outputBy, Outputs}
+
+-- on paper: the settings, or the number of the refusal
+abbrev pub toldRead : SheetRead → Told Settings
+toldRead (ReadSettings k) = answer k
+toldRead (Refused why) = refusal (numberOf why)
 
 -- "Sheet writer: 11 for values no sheet may hold, then 12"
 abbrev pub writerConditions : Settings → ℕ → List Condition
@@ -39,16 +44,17 @@ pub record OneOutcome : Type 0 where
   pub output : (s before : List ℕ) (n n′ : ℕ) (after after′ : List ℕ) → Outputs s before n after → Outputs s before n′ after′ → (n ≡ n′) × (after ≡ after′)
 
 pub record Promise : Type 0 where
-  -- accepted with these settings exactly when a sheet may hold them and the bytes are their text; refused by 11 otherwise
-  pub exactly : (s : List ℕ) (r : SheetRead) → Reads s r → (k : Settings) → r ≡ ReadSettings k ↔ IsSheet s k
-  pub refused : (s : List ℕ) (r : SheetRead) → Reads s r → (why : Refusal) → r ≡ Refused why → why ≡ WrongSheet
+  -- accepted with these settings exactly when a sheet may hold them and the bytes are their text
+  pub accepted-exactly : (s : List ℕ) (r : SheetRead) → Reads s r → (k : Settings) → toldRead r ≡ answer k ↔ IsSheet s k
+  -- refused exactly when they are no sheet, and by 11 alone
+  pub refused-exactly : (s : List ℕ) (r : SheetRead) → Reads s r → (n : ℕ) → toldRead r ≡ refusal n ↔ (n ≡ 11) × ((k : Settings) → IsSheet s k → ⊥)
   -- no two sheets share a text
   pub apart : (k m : Settings) → isLegal k ≡ true → isLegal m ≡ true → sheetText k ≡ sheetText m → k ≡ m
   -- "A comma or dot is refused", wherever it stands
-  pub comma-or-dot : (s : List ℕ) (r : SheetRead) → Reads s r → (i : ℕ) → (getD s i 0 ≡ 44) ⊎ (getD s i 0 ≡ 46) → r ≡ Refused WrongSheet
+  pub comma-or-dot : (s : List ℕ) (r : SheetRead) → Reads s r → (i : ℕ) → (getD s i 0 ≡ 44) ⊎ (getD s i 0 ≡ 46) → toldRead r ≡ refusal 11
   pub writes : (k : Settings) (held : List ℕ) (r : Written) (after : List ℕ) → SheetWritten k held r after → Writes k held r after
   -- "A written sheet reads back as the same six values"
-  pub reads-back : (k : Settings) (held : List ℕ) (n : ℕ) (after : List ℕ) → SheetWritten k held (Text n) after → (r : SheetRead) → Reads (take n after) r → r ≡ ReadSettings k
+  pub reads-back : (k : Settings) (held : List ℕ) (n : ℕ) (after : List ℕ) → SheetWritten k held (Text n) after → (r : SheetRead) → Reads (take n after) r → toldRead r ≡ answer k
   -- "and an accepted sheet is written back as the same bytes", in any buffer that is long enough
   pub writes-back : (s : List ℕ) (k : Settings) → Reads s (ReadSettings k) → (held : List ℕ) (r : Written) (after : List ℕ) → length s ≤ length held → SheetWritten k held r after → (r ≡ Text (length s)) × (after ≡ s ++ drop (length s) held)
   -- the longest sheet has 84 bytes, there is one, and a buffer that large is never refused by 12
