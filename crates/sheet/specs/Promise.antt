@@ -47,7 +47,7 @@ pub record Promise : Type 0 where
   -- accepted with these settings exactly when a sheet may hold them and the bytes are their text
   pub accepted-exactly : (s : List ℕ) (r : SheetRead) → Reads s r → (k : Settings) → toldRead r ≡ answer k ↔ IsSheet s k
   -- refused exactly when they are no sheet, and by 11 alone
-  pub refused-exactly : (s : List ℕ) (r : SheetRead) → Reads s r → (n : ℕ) → toldRead r ≡ refusal n ↔ (n ≡ 11) × ((k : Settings) → IsSheet s k → ⊥)
+  pub refused-exactly : (s : List ℕ) (r : SheetRead) → Reads s r → (n : ℕ) → toldRead r ≡ refusal n ↔ ((n ≡ 11) × ((k : Settings) → IsSheet s k → ⊥))
   -- no two sheets share a text
   pub apart : (k m : Settings) → isLegal k ≡ true → isLegal m ≡ true → sheetText k ≡ sheetText m → k ≡ m
   -- "A comma or dot is refused", wherever it stands

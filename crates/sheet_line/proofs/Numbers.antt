@@ -3,24 +3,29 @@ use Prim.Native.Nat.{ℕ, suc, _+_, _*_, _≤_, _<_}
 use native.Mathlib.Nat.{le-refl}
 use native.Mathlib.Omega.{arith}
 use mathlib.Core.Path.{_≡_, refl, sym, ap, subst, _∙_}
-use mathlib.Core.Bool.{Bool, true, false, cond, not, _||_}
+use mathlib.Core.Bool.{Bool, true, false, cond, _||_}
 use mathlib.Core.List.{List, [], _∷_, _++_, append-assoc}
-use lib.Dec.{eqb, leb, lit<}
+use lib.Dec.{eqb, leb, lit≤, lit<}
 use lib.ListN.{length, getD, drop, drop-of-length-le}
 use lib.Seq.{drop-cons}
-use borrow.Author.Tests.{not-true, lt-leb, leb-true, eqb-true}
-use Rattle.words.proofs.Tests.{decided, by-test, and-left, and-right}
+use borrow.Author.Tests.{ne-eqb, lt-leb, leb-true, eqb-true}
+use Rattle.words.proofs.Tests.{decided, by-test, and-right}
 use Rattle.maintenance.specs.declared.setting.Setting.{Setting}
 use Rattle.maintenance.specs.declared.setting.Setting.the-variants.{ReceiveId, TransmitId, Speed, Voltage, WarningLevel, FaultLevel}
 use Rattle.maintenance.specs.Settings.{speedNumber}
 use Rattle.text.specs.Figures.{hexadecimal, decimal}
 use Rattle.text.specs.Promise.{valueOf, numberFrom}
-use Rattle.text.proofs.Figures.{lacks, hexadecimal-lacks, decimal-lacks}
+use Rattle.text.proofs.Figures.{lacks, lacks-at, hexadecimal-lacks, decimal-lacks}
 use Rattle.text.proofs.Promise.{promise as text}
 use Rattle.sheet_line.specs.Lines.{lineText, mayHold}
-use Rattle.sheet_line.specs.Number.{base, scan, isHexadecimal, widthOf, valueFor}
+use Rattle.sheet_line.specs.Number.{isHexadecimal, base, widthOf, valueFor, Counts}
 
 -- ---- figure by figure
+
+-- the number of the figures up to a line feed, after figures with that number, as the loop counts it
+unfoldable pub scan : ℕ → ℕ → List ℕ → ℕ
+scan b n [] = n
+scan b n (c ∷ cs) = cond (eqb c 10 || leb 2147483648 n) n (scan b (n * b + valueOf c) cs)
 
 scan-none : (b n : ℕ) → scan b n [] ≡ n
 unfolding scan
@@ -56,20 +61,16 @@ grows : (h : Bool) (n : ℕ) (figs : List ℕ) → n ≤ numberFrom (base h) n f
 grows h n [] = le-refl n
 grows h n (c ∷ cs) = let one = larger h n (valueOf c) in let rest = grows h (n * base h + valueOf c) cs in omega (arith, one, rest)
 
-scan-figures : (h : Bool) (n : ℕ) (figs rest : List ℕ) → lacks 10 figs ≡ true → numberFrom (base h) n figs < 2147483648 → scan (base h) n (figs ++ (10 ∷ rest)) ≡ numberFrom (base h) n figs
-scan-figures h n [] rest l small = scan-ends (base h) n 10 rest refl
-scan-figures h n (c ∷ cs) rest l small =
-    let other = not-true (eqb c 10) (and-left (not (eqb c 10)) (lacks 10 cs) l) in
+scan-figures : (h : Bool) (n : ℕ) (figs rest : List ℕ) → ((i : ℕ) → getD figs i 0 ≡ 10 → ⊥) → numberFrom (base h) n figs < 2147483648 → scan (base h) n (figs ++ (10 ∷ rest)) ≡ numberFrom (base h) n figs
+scan-figures h n [] rest none small = scan-ends (base h) n 10 rest refl
+scan-figures h n (c ∷ cs) rest none small =
     let below : n < 2147483648 = (let g = grows h n (c ∷ cs) in omega (arith, g, small)) in
-    scan-more (base h) n c (cs ++ (10 ∷ rest)) (rw (other, lt-leb 2147483648 n below) refl)
-    ∙ scan-figures h (n * base h + valueOf c) cs rest (and-right (not (eqb c 10)) (lacks 10 cs) l) small
+    scan-more (base h) n c (cs ++ (10 ∷ rest)) (rw (ne-eqb c 10 (none 0), lt-leb 2147483648 n below) refl)
+    ∙ scan-figures h (n * base h + valueOf c) cs rest (λ i. none (suc i)) small
 
--- a number below 2147483648 is found
-found : (h : Bool) (n : ℕ) (figs rest : List ℕ) → lacks 10 figs ≡ true → numberFrom (base h) 0 figs ≡ n → n < 2147483648 → scan (base h) 0 (figs ++ (10 ∷ []) ++ rest) ≡ n
-found h n figs rest l q small =
-    ap (scan (base h) 0) (append-assoc figs (10 ∷ []) rest)
-    ∙ scan-figures h 0 figs rest l (subst (λ (k : ℕ). k < 2147483648) (sym q) small)
-    ∙ q
+pub scanned : (h : Bool) (t : List ℕ) (n : ℕ) → n ≡ scan (base h) 0 t → Counts (base h) t n
+scanned h t n q =
+    record { counted = λ figs rest none e small. q ∙ ap (scan (base h) 0) e ∙ scan-figures h 0 figs rest none small }
 
 -- ---- the value of a line
 
@@ -90,22 +91,27 @@ shown-small Voltage v l = let h = leb-true v 65534 l in omega (arith, h)
 shown-small WarningLevel v l = let h = leb-true v 2147483647 (and-right (leb 1 v) _ l) in omega (arith, h)
 shown-small FaultLevel v l = let h = leb-true v 2147483647 (and-right (leb 1 v) _ l) in omega (arith, h)
 
-hex-found : (n : ℕ) (rest : List ℕ) → n < 2147483648 → scan 16 0 (hexadecimal 8 n ++ (10 ∷ []) ++ rest) ≡ n
-hex-found n rest small =
-    found true n (hexadecimal 8 n) rest (hexadecimal-lacks 10 8 n (lit< tt)) (text .hexadecimal-number 8 n (let h : n < 4294967296 = omega (arith, small) in h)) small
+-- what is counted from the figures of a number and a line feed is the number
+figures-counted : (b : ℕ) (figs rest : List ℕ) (m n : ℕ) → lacks 10 figs ≡ true → numberFrom b 0 figs ≡ m → m < 2147483648 → Counts b (figs ++ (10 ∷ []) ++ rest) n → n ≡ m
+figures-counted b figs rest m n l same small x =
+    x .counted figs rest (λ i. lacks-at 10 figs l i (lit≤ tt)) (append-assoc figs (10 ∷ []) rest) (subst (λ (k : ℕ). k < 2147483648) (sym same) small) ∙ same
 
-decimal-found : (n : ℕ) (rest : List ℕ) → n < 2147483648 → scan 10 0 (decimal n ++ (10 ∷ []) ++ rest) ≡ n
-decimal-found n rest small =
-    found false n (decimal n) rest (decimal-lacks 10 n (lit< tt)) (text .decimal-number n (let h : n < 4294967296 = omega (arith, small) in h)) small
+hexadecimal-counted : (v n : ℕ) (rest : List ℕ) → v < 2147483648 → Counts 16 (hexadecimal 8 v ++ (10 ∷ []) ++ rest) n → n ≡ v
+hexadecimal-counted v n rest small =
+    figures-counted 16 (hexadecimal 8 v) rest v n (hexadecimal-lacks 10 8 v (lit< tt)) (text .hexadecimal-number 8 v (let h : v < 4294967296 = omega (arith, small) in h)) small
 
-scan-line : (setting : Setting) (v : ℕ) (rest : List ℕ) → shown setting v < 2147483648 → scan (base (isHexadecimal setting)) 0 (drop (widthOf setting) (lineText setting v ++ rest)) ≡ shown setting v
+decimal-counted : (v n : ℕ) (rest : List ℕ) → v < 2147483648 → Counts 10 (decimal v ++ (10 ∷ []) ++ rest) n → n ≡ v
+decimal-counted v n rest small =
+    figures-counted 10 (decimal v) rest v n (decimal-lacks 10 v (lit< tt)) (text .decimal-number v (let h : v < 4294967296 = omega (arith, small) in h)) small
+
+line-counted : (setting : Setting) (v n : ℕ) (rest : List ℕ) → shown setting v < 2147483648 → Counts (base (isHexadecimal setting)) (drop (widthOf setting) (lineText setting v ++ rest)) n → n ≡ shown setting v
 unfolding lineText
-scan-line ReceiveId v rest small = hex-found v rest small
-scan-line TransmitId v rest small = hex-found v rest small
-scan-line Speed v rest small = decimal-found (speedNumber v) rest small
-scan-line Voltage v rest small = decimal-found v rest small
-scan-line WarningLevel v rest small = decimal-found v rest small
-scan-line FaultLevel v rest small = decimal-found v rest small
+line-counted ReceiveId v n rest small x = hexadecimal-counted v n rest small x
+line-counted TransmitId v n rest small x = hexadecimal-counted v n rest small x
+line-counted Speed v n rest small x = decimal-counted (speedNumber v) n rest small x
+line-counted Voltage v n rest small x = decimal-counted v n rest small x
+line-counted WarningLevel v n rest small x = decimal-counted v n rest small x
+line-counted FaultLevel v n rest small x = decimal-counted v n rest small x
 
 speed-back : (v : ℕ) → (eqb v 0x00CA0250 || eqb v 0x00CA0500) ≡ true → cond (eqb (speedNumber v) 250) 0x00CA0250 0x00CA0500 ≡ v
 speed-back v l =
@@ -122,8 +128,8 @@ value-back WarningLevel v l = refl
 value-back FaultLevel v l = refl
 
 -- the value is found, whatever follows the line
-pub value-found : (setting : Setting) (v n : ℕ) (s rest : List ℕ) → mayHold setting v ≡ true → n ≡ scan (base (isHexadecimal setting)) 0 (drop (widthOf setting) s) → s ≡ lineText setting v ++ rest → (n < 2147483648) × (valueFor setting n ≡ v)
-value-found setting v n s rest l q e =
+pub value-found : (setting : Setting) (v n : ℕ) (s rest : List ℕ) → mayHold setting v ≡ true → Counts (base (isHexadecimal setting)) (drop (widthOf setting) s) n → s ≡ lineText setting v ++ rest → (n < 2147483648) × (valueFor setting n ≡ v)
+value-found setting v n s rest l x e =
     let small = shown-small setting v l in
-    let same : n ≡ shown setting v = q ∙ ap (λ (t : List ℕ). scan (base (isHexadecimal setting)) 0 (drop (widthOf setting) t)) e ∙ scan-line setting v rest small in
+    let same = line-counted setting v n rest small (subst (λ (t : List ℕ). Counts (base (isHexadecimal setting)) (drop (widthOf setting) t) n) e x) in
     (subst (λ (k : ℕ). k < 2147483648) (sym same) small, ap (valueFor setting) same ∙ value-back setting v l)

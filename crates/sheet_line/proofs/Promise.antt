@@ -16,10 +16,10 @@ use Rattle.maintenance.proofs.Settings.{speed-below}
 use Rattle.text.proofs.Figures.{lacks, lacks-append, lacks-at, hexadecimal-lacks, decimal-lacks, hexadecimal-length, decimal-length, decimal-below}
 use Rattle.sheet_line.specs.declared.reading.Line.{Line}
 use Rattle.sheet_line.specs.Lines.{nameOf, figuresOf, lineText, mayHold, longestOf}
-use Rattle.sheet_line.specs.Number.{base, scan, isHexadecimal, widthOf}
+use Rattle.sheet_line.specs.Number.{isHexadecimal, base, widthOf}
 use Rattle.sheet_line.specs.Reading.{ReadsLine}
 use Rattle.sheet_line.specs.Promise.{Promise}
-use Rattle.sheet_line.proofs.Numbers.{value-found}
+use Rattle.sheet_line.proofs.Numbers.{scan, scanned, value-found}
 use Rattle.sheet_line.proofs.Places.{line-length}
 
 -- ---- no two lines are alike
@@ -27,8 +27,10 @@ use Rattle.sheet_line.proofs.Places.{line-length}
 -- two lines of a setting with anything after them: the same value, and the same after
 line-apart : (setting : Setting) (v w : ℕ) (rest rest′ : List ℕ) → mayHold setting v ≡ true → mayHold setting w ≡ true → lineText setting v ++ rest ≡ lineText setting w ++ rest′ → (v ≡ w) × (rest ≡ rest′)
 line-apart setting v w rest rest′ h h′ e =
-    let n = scan (base (isHexadecimal setting)) 0 (drop (widthOf setting) (lineText setting v ++ rest)) in
-    let same : v ≡ w = sym (value-found setting v n (lineText setting v ++ rest) rest h refl refl .1) ∙ value-found setting w n (lineText setting v ++ rest) rest′ h′ refl e .1 in
+    let t = lineText setting v ++ rest in
+    let n = scan (base (isHexadecimal setting)) 0 (drop (widthOf setting) t) in
+    let counts = scanned (isHexadecimal setting) (drop (widthOf setting) t) n refl in
+    let same : v ≡ w = sym (value-found setting v n t rest h counts refl .1) ∙ value-found setting w n t rest′ h′ counts e .1 in
     (same, append-cancel-left (lineText setting v) rest rest′ (e ∙ ap (λ (x : ℕ). lineText setting x ++ rest′) (sym same)))
 
 -- ---- how long a line is

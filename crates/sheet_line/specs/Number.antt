@@ -1,21 +1,15 @@
--- How the value of a line is looked for. Nothing of this has to be believed: what is found is written back and compared with the line.
-use Prim.Native.Nat.{ℕ, _+_, _*_}
-use mathlib.Core.Bool.{Bool, true, false, cond, _||_}
-use mathlib.Core.List.{List, [], _∷_}
-use lib.Dec.{eqb, leb}
+-- How the value of a line is looked for. None of it has to be believed: what is found is written back and compared with the line.
+use Prim.Native.Nat.{ℕ, _<_}
+use mathlib.Core.Path.{_≡_}
+use mathlib.Core.Bool.{Bool, true, false, cond}
+use mathlib.Core.List.{List, _∷_, _++_}
+use lib.Dec.{eqb}
+use lib.ListN.{getD}
 use Rattle.maintenance.specs.declared.setting.Setting.{Setting}
 use Rattle.maintenance.specs.declared.setting.Setting.the-variants.{ReceiveId, TransmitId, Speed, Voltage, WarningLevel, FaultLevel}
-use Rattle.text.specs.Promise.{valueOf}
+use Rattle.text.specs.Promise.{numberFrom}
 
-abbrev pub base : Bool → ℕ
-base true = 16
-base false = 10
-
--- the number of the figures up to a line feed, after figures with that number
-unfoldable pub scan : ℕ → ℕ → List ℕ → ℕ
-scan b n [] = n
-scan b n (c ∷ cs) = cond (eqb c 10 || leb 2147483648 n) n (scan b (n * b + valueOf c) cs)
-
+-- identifiers are hexadecimal, all else is decimal
 abbrev pub isHexadecimal : Setting → Bool
 isHexadecimal ReceiveId = true
 isHexadecimal TransmitId = true
@@ -24,7 +18,11 @@ isHexadecimal Voltage = false
 isHexadecimal WarningLevel = false
 isHexadecimal FaultLevel = false
 
--- the name and one space
+abbrev pub base : Bool → ℕ
+base true = 16
+base false = 10
+
+-- the place of the figures in a line: after the name and one space
 abbrev pub widthOf : Setting → ℕ
 widthOf ReceiveId = 3
 widthOf TransmitId = 3
@@ -33,10 +31,10 @@ widthOf Voltage = 8
 widthOf WarningLevel = 8
 widthOf FaultLevel = 6
 
+-- the value that is shown as a number
 abbrev pub speedFor : ℕ → ℕ
 speedFor n = cond (eqb n 250) 0x00CA0250 0x00CA0500
 
--- the value that is shown as a number
 abbrev pub valueFor : Setting → ℕ → ℕ
 valueFor ReceiveId n = n
 valueFor TransmitId n = n
@@ -44,3 +42,7 @@ valueFor Speed n = speedFor n
 valueFor Voltage n = n
 valueFor WarningLevel n = n
 valueFor FaultLevel n = n
+
+-- the number of the figures before the first line feed, if it is below 2147483648; no line shows a larger one
+pub record Counts (base : ℕ) (t : List ℕ) (n : ℕ) : Type 0 where
+  pub counted : (figures rest : List ℕ) → ((i : ℕ) → getD figures i 0 ≡ 10 → ⊥) → t ≡ figures ++ (10 ∷ rest) → numberFrom base 0 figures < 2147483648 → n ≡ numberFrom base 0 figures

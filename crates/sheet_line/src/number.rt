@@ -6,7 +6,7 @@ ghost use Prim.Native.Nat.{ℕ, _+_, _*_, _<_};
 ghost use lib.ListN.{drop};
 ghost use Rattle.text.specs.Promise.{valueOf};
 ghost use Rattle.sheet_line.specs.Lines.{mayHold, lineText};
-ghost use Rattle.sheet_line.specs.Number.{base, scan, isHexadecimal, widthOf, speedFor, valueFor};
+ghost use Rattle.sheet_line.specs.Number.{isHexadecimal, base, widthOf, speedFor, valueFor, Counts};
 use maintenance::setting::Setting;
 
 // The value of a figure; of another byte, any number.
@@ -35,7 +35,7 @@ fn more(n: u64, hexadecimal: bool, figure: u8) -> u64
 
 // The number from a place up to a line feed. No sheet holds 2147483648 or more: from there on figures are not counted.
 fn number(s: &[u8], from: usize, hexadecimal: bool) -> u64
-    ensures { λ r. ⌜ r ≡ scan (base hexadecimal) 0 (drop from (now (s .entry))) ⌝ }
+    ensures { λ r. ⌜ Counts (base hexadecimal) (drop from (now (s .entry))) r ⌝ }
 {
     let mut n: u64 = 0;
     let mut i = from;

@@ -2,16 +2,16 @@
 use borrow.Author.Needs.{needs}
 use native.Mathlib.Omega.{arith}
 use Prim.Native.Nat.{ℕ, _%_}
-use mathlib.Core.Path.{_≡_, ap, _∙_}
+use mathlib.Core.Path.{_≡_, ap, subst, _∙_}
 use mathlib.Core.Bool.{Bool}
 use lib.ListN.{drop}
-use Rattle.sheet_line.specs.Number.{base, scan, widthOf, valueFor}
+use Rattle.sheet_line.specs.Number.{base, widthOf, valueFor, Counts}
 use Rattle.sheet_line.proofs.Numbers.{value-found}
 use Rattle.sheet_line.proofs.number.value_in.Statement.{statement}
 use Rattle.sheet_line.proofs.number.value_in.Tie as tie
 
 returns : tie.Need-returns
-returns c = λ v rest legal e. let both = value-found (c .before .before .before .before .before .args .setting) v (c .before .number .result) (c .before .before .before .before .before .args .s .now) rest legal (c .before .number .ensures ∙ ap (λ (k : ℕ). scan (base (c .before .before .is-hexadecimal .result)) 0 (drop k (c .before .before .before .before .before .args .s .now))) (c .before .before .before .width .ensures) ∙ ap (λ (h : Bool). scan (base h) 0 (drop (widthOf (c .before .before .before .before .before .args .setting)) (c .before .before .before .before .before .args .s .now))) (c .before .before .is-hexadecimal .ensures)) e in
+returns c = λ v rest legal e. let both = value-found (c .before .before .before .before .before .args .setting) v (c .before .number .result) (c .before .before .before .before .before .args .s .now) rest legal (subst (λ (h : Bool). Counts (base h) (drop (widthOf (c .before .before .before .before .before .args .setting)) (c .before .before .before .before .before .args .s .now)) (c .before .number .result)) (c .before .before .is-hexadecimal .ensures) (subst (λ (k : ℕ). Counts (base (c .before .before .is-hexadecimal .result)) (drop k (c .before .before .before .before .before .args .s .now)) (c .before .number .result)) (c .before .before .before .width .ensures) (c .before .number .ensures))) e in
     c .value-for .ensures ∙ ap (valueFor (c .before .before .before .before .before .args .setting)) (let small = both .0 in let same : c .before .number .result % 4294967296 ≡ c .before .number .result = omega (arith, small) in same) ∙ both .1
 
 pub value-in-spec : {M : Type 1} → statement M
