@@ -1,15 +1,15 @@
 -- The sheet crate keeps its promise. Assumes nothing.
-use Prim.Native.Nat.{ℕ, _≤_}
+use Prim.Native.Nat.{ℕ, suc, _≤_}
 use native.Mathlib.Omega.{arith}
 use mathlib.Core.Path.{_≡_, refl, sym, ap, subst, _∙_}
 use mathlib.Core.Bool.{Bool, true, false, cond, not, _&&_}
 use mathlib.Core.List.{List, [], _∷_, _++_}
 use mathlib.Core.Logic.{_⊎_, inl, inr}
-use lib.Dec.{lit≤, leb·suc-suc}
+use lib.Dec.{eqb, leb, lit≤, leb·suc-suc}
 use lib.ListN.{length, getD, take, drop, length-append}
 use lib.Seq.{take-at}
-use borrow.Author.Tests.{le-ltb}
-use Rattle.words.proofs.Tests.{false-true}
+use borrow.Author.Tests.{le-ltb, leb-true}
+use Rattle.words.proofs.Tests.{by-test, false-true, and-left, and-right}
 use Rattle.refusal.specs.declared.Refusal.{Refusal}
 use Rattle.refusal.specs.declared.Refusal.the-variants.{WrongSheet, ShortBuffer}
 use Rattle.refusal.specs.Refusals.{numberOf}
@@ -18,8 +18,6 @@ use Rattle.refusal.proofs.Conditions.{pick, answers}
 use Rattle.maintenance.specs.declared.setting.Setting.{Setting}
 use Rattle.maintenance.specs.declared.setting.Setting.the-variants.{ReceiveId, TransmitId, Speed, Voltage, WarningLevel, FaultLevel}
 use Rattle.maintenance.specs.declared.setting.Settings.{Settings}
-use Rattle.maintenance.specs.declared.setting.Named.{Named}
-use Rattle.maintenance.specs.declared.setting.Named.the-variants.{Unknown, Known}
 use Rattle.maintenance.specs.Settings.{accepted}
 use Rattle.text.specs.declared.written.Written.{Written}
 use Rattle.text.specs.declared.written.Written.the-variants.{Text, Refused as NotWritten}
@@ -36,7 +34,7 @@ use Rattle.sheet.specs.declared.reading.SheetRead.the-variants.{Settings
 use Rattle.sheet_line.specs.Lines.{lineText, mayHold}
 use Rattle.sheet_line.proofs.Promise.{comma-lacks, dot-lacks}
 use Rattle.sheet.specs.Sheet.{linesOf, joined, sheetText, isLegal, IsSheet, Judges, Reads, WrittenBy, SheetWritten}
-use Rattle.sheet.specs.Output.{settingAt, expectedBy, expectedLine, outputBy, Outputs}
+use Rattle.sheet.specs.Output.{sentences, sentenceFrom, expectedAt, expectedLine, outputBy, Outputs}
 use Rattle.sheet.specs.Promise.{toldRead, writerConditions, Promise}
 use Rattle.sheet.proofs.Sheets.{sheet-length}
 use Rattle.sheet.proofs.Apart.{sheets-apart, line-most, one-judged, one-read, first-decide}
@@ -142,14 +140,19 @@ same-accepted k =
 
 -- ---- the program
 
-expected-length : (n : Named) → length (expectedBy n) ≤ 130
-expected-length Unknown = lit≤ tt
-expected-length (Known ReceiveId) = lit≤ tt
-expected-length (Known TransmitId) = lit≤ tt
-expected-length (Known Speed) = lit≤ tt
-expected-length (Known Voltage) = lit≤ tt
-expected-length (Known WarningLevel) = lit≤ tt
-expected-length (Known FaultLevel) = lit≤ tt
+abbrev short : List (List ℕ) → Bool
+short [] = true
+short (t ∷ ts) = leb (length t) 130 && short ts
+
+sentence-length : (n : ℕ) (ts : List (List ℕ)) (line : ℕ) → short ts ≡ true → length (sentenceFrom n ts line) ≤ 130
+sentence-length n [] line h = lit≤ tt
+sentence-length n (t ∷ ts) line h =
+    by-test (eqb line n) (λ (b : Bool). length (cond b t (sentenceFrom (suc n) ts line)) ≤ 130)
+    (leb-true (length t) 130 (and-left (leb (length t) 130) (short ts) h))
+    (sentence-length (suc n) ts line (and-right (leb (length t) 130) (short ts) h))
+
+expected-length : (line : ℕ) → length (expectedAt line) ≤ 130
+expected-length line = sentence-length 1 sentences line refl
 
 output-length : (s : List ℕ) (j : Judged) → Judges s j → length (outputBy j) ≤ 200
 output-length s (Sheet k) x = let l = sheet-length k (x .legal) in omega (arith, l)
@@ -160,12 +163,12 @@ output-length s (Wrong n) x =
     let second = length-append r (10 ∷ []) in
     let third = length-append (letters "line ") (decimal n) in
     let fourth = length-append l (letters ": expected ") in
-    let fifth = length-append (l ++ letters ": expected ") (expectedBy (settingAt n)) in
-    let sixth = length-append (l ++ letters ": expected " ++ expectedBy (settingAt n)) (10 ∷ []) in
+    let fifth = length-append (l ++ letters ": expected ") (expectedAt n) in
+    let sixth = length-append (l ++ letters ": expected " ++ expectedAt n) (10 ∷ []) in
     let all = length-append (refusedLine WrongSheet) (expectedLine n) in
     let a = decimal-length (numberOf WrongSheet) in
     let b = decimal-length n in
-    let c = expected-length (settingAt n) in
+    let c = expected-length n in
     omega (arith, first, second, third, fourth, fifth, sixth, all, a, b, c)
 
 one-output : (s before : List ℕ) (n n′ : ℕ) (after after′ : List ℕ) → Outputs s before n after → Outputs s before n′ after′ → (n ≡ n′) × (after ≡ after′)

@@ -21,7 +21,7 @@ pub fn may_hold(setting: Setting, value: u32) -> bool
     }
 }
 
-pub fn name(out: &mut [u8], at: usize, setting: Setting) -> usize
+fn name(out: &mut [u8], at: usize, setting: Setting) -> usize
     ensures { λ r. ⌜ Put (now (out .entry)) at (nameOf setting) r (now (out .exit)) ⌝ }
 {
     match setting {

@@ -2,7 +2,7 @@
 ghost use mathlib.Core.Path.{_≡_};
 ghost use mathlib.Core.Bool.{true};
 ghost use mathlib.Core.List.{List, _++_};
-ghost use Prim.Native.Nat.{ℕ, _+_, _*_, _<_};
+ghost use Prim.Native.Nat.{ℕ, _+_, _*_, _≤_, _<_};
 ghost use lib.ListN.{drop};
 ghost use Rattle.text.specs.Promise.{valueOf};
 ghost use Rattle.sheet_line.specs.Lines.{mayHold, lineText};
@@ -22,15 +22,18 @@ fn value_of(figure: u8) -> u64
     (figure - 55) as u64
 }
 
+fn base_of(hexadecimal: bool) -> u64
+    ensures { λ r. ⌜ (r ≡ base hexadecimal) × (r ≤ 16) ⌝ }
+{
+    if hexadecimal { 16 } else { 10 }
+}
+
 // The number with one more figure.
 fn more(n: u64, hexadecimal: bool, figure: u8) -> u64
     requires { ⌜ n < 2147483648 ⌝ }
     ensures { λ r. ⌜ r ≡ n * base hexadecimal + valueOf figure ⌝ }
 {
-    if hexadecimal {
-        return n * 16 + value_of(figure);
-    }
-    n * 10 + value_of(figure)
+    n * base_of(hexadecimal) + value_of(figure)
 }
 
 // The number from a place up to a line feed. No sheet holds 2147483648 or more: from there on figures are not counted.
