@@ -10,5 +10,4 @@ pub mod OneReading
 pub mod History
 pub mod Legal
 pub mod Identifiers
-pub mod Marked
 pub mod Promise

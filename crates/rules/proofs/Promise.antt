@@ -14,7 +14,6 @@ use Rattle.rules.proofs.Demand.{demand-back}
 use Rattle.rules.proofs.OneReading.{Same, one-reading, meets-too}
 use Rattle.rules.proofs.Legal.{stored-legal}
 use Rattle.rules.proofs.Identifiers.{reply-on}
-use Rattle.rules.proofs.Marked.{marked-runs}
 
 worked-out : (p : PowerOn) (h : List Event) → Run p h → WorkedOut p h
 worked-out p h r =
@@ -60,5 +59,4 @@ promise =
       worked-out = worked-out;
       demand-3 = demand-3;
       sound = sound;
-      marked = marked-runs;
     }

@@ -6,5 +6,4 @@ pub mod History
 pub mod Demand
 pub mod Replies
 pub mod Given
-pub mod Marked
 pub mod Promise

@@ -21,7 +21,6 @@ use Rattle.rules.specs.Rules.{turn, started, woken, heard, framed, wasRe
 use Rattle.rules.specs.Replies.{OutsideReplies, SessionReplies}
 use Rattle.rules.specs.History.{storedAfter, inSession, lastStart, replyTo}
 use Rattle.rules.specs.Demand.{Reading, Demand, lookingBack}
-use Rattle.rules.specs.Marked.{MarkedRuns}
 
 -- ---- rules
 
@@ -94,4 +93,3 @@ pub record Promise : Type 0 where
   pub worked-out : (p : PowerOn) (h : List Event) → Run p h → WorkedOut p h
   pub demand-3 : (p : PowerOn) → Demand3 p
   pub sound : (p : PowerOn) → IsAccepted p → (h : List Event) → Sound p h
-  pub marked : MarkedRuns

@@ -1,0 +1,2 @@
+-- The proof of the marked cases.
+pub mod Marked

@@ -1,0 +1,49 @@
+-- The marked cases hold, by computation. Assumes nothing.
+use mathlib.Core.Path.{refl}
+use Rattle.codec.specs.Table.{lineOf}
+use Rattle.codec.specs.Reports.{readReport}
+use Rattle.codec.specs.Requests.{readRequest}
+use Rattle.maintenance.specs.Messages.{message}
+use Rattle.rules.specs.History.{storedAfter}
+use Rattle.text.specs.Figures.{hexadecimal, decimalUpTo}
+use Rattle.log.specs.Layout.{isLaidOut}
+use Rattle.log.specs.Block.{blockIn, isLegal}
+use Rattle.log.specs.Record.{recordIn, zeros, isRecord}
+use Rattle.log.specs.Check.{historyOf, recordsAnswer}
+use Rattle.listing.specs.Lines.{spaced}
+use Rattle.listing.specs.Listing.{linesOf, listingOf}
+use Rattle.marked.specs.Marked.{Marked}
+
+pub marked : Marked
+unfolding lineOf readReport readRequest message storedAfter hexadecimal decimalUpTo isLaidOut blockIn isLegal recordIn zeros isRecord historyOf recordsAnswer spaced linesOf listingOf
+marked = (
+  refl,
+  (
+    refl,
+    (
+      record { on-the-bench = refl; looking-back = refl },
+      (
+        record { on-the-bench = refl; looking-back = refl },
+        (
+          record { on-the-bench = refl; looking-back = refl },
+          (
+            record { on-the-bench = refl; looking-back = refl },
+            (
+              refl,
+              (
+                record { on-the-bench = refl; looking-back = refl },
+                (
+                  record { on-the-bench = refl; looking-back = refl },
+                  (
+                    record { on-the-bench = refl; looking-back = refl },
+                    (refl, (refl, (refl, (refl, tt)))),
+                  ),
+                ),
+              ),
+            ),
+          ),
+        ),
+      ),
+    ),
+  ),
+)
