@@ -7,7 +7,8 @@ use mathlib.Core.Bool.{Bool, true, cond, not, _&&_}
 use mathlib.Core.List.{List, [], _∷_, _++_}
 use lib.Dec.{eqb, ltb, lit≤}
 use lib.ListN.{length, getD, length-append}
-use borrow.Author.Tests.{lt-ltb, le-ltb, eq-eqb, ne-eqb}
+use mathlib.Core.List.{append-assoc}
+use borrow.Author.Tests.{lt-ltb, le-ltb, eq-eqb, ne-eqb, ltb-true, ltb-false, eqb-true, eqb-false}
 use Rattle.words.proofs.Tests.{by-test, decided, false-true, and-left, and-right, and-true}
 use Rattle.text.specs.Figures.{decimalUpTo, decimal, hexadecimal, figure, figureBy}
 
@@ -29,15 +30,67 @@ pub two-figures : (n : ℕ) → 10 ≤ n → n < 100 → (48 + n / 10 % 10) ∷ 
 two-figures n a b =
     sym (more-figures n a (omega (arith, b)) ∙ ap (λ (t : List ℕ). t ++ ((48 + n % 10) ∷ [])) (one-figure (n / 10) (omega (arith, b))))
 
-pub two-more : (n : ℕ) → 100 ≤ n → n < 2 ^ 32 → decimal (n / 100) ++ ((48 + n / 10 % 10) ∷ []) ++ ((48 + n % 10) ∷ []) ≡ decimal n
-two-more n a b =
+pub three-figures : (n : ℕ) → 100 ≤ n → n < 1000 → (48 + n / 10 / 10 % 10) ∷ (48 + n / 10 % 10) ∷ (48 + n % 10) ∷ [] ≡ decimal n
+three-figures n a b =
+    sym (more-figures n (omega (arith, a)) (omega (arith, b)) ∙ ap (λ (t : List ℕ). t ++ ((48 + n % 10) ∷ [])) (sym (two-figures (n / 10) (omega (arith, a)) (omega (arith, b)))))
+
+-- the last four figures
+abbrev pub lastFour : ℕ → List ℕ
+lastFour n = (48 + n / 10 / 10 / 10 % 10) ∷ (48 + n / 10 / 10 % 10) ∷ (48 + n / 10 % 10) ∷ (48 + n % 10) ∷ []
+
+pub four-figures : (n : ℕ) → 1000 ≤ n → n < 10000 → lastFour n ≡ decimal n
+four-figures n a b =
+    sym (more-figures n (omega (arith, a)) (omega (arith, b)) ∙ ap (λ (t : List ℕ). t ++ ((48 + n % 10) ∷ [])) (sym (three-figures (n / 10) (omega (arith, a)) (omega (arith, b)))))
+
+-- figures put after figures
+after-them : (n : ℕ) (t u : List ℕ) → 10 ≤ n → n < 2 ^ 32 → decimal (n / 10) ≡ t ++ u → decimal n ≡ t ++ (u ++ ((48 + n % 10) ∷ []))
+after-them n t u a b q = more-figures n a b ∙ ap (λ (w : List ℕ). w ++ ((48 + n % 10) ∷ [])) q ∙ append-assoc t u ((48 + n % 10) ∷ [])
+
+pub four-more : (n : ℕ) → 10000 ≤ n → n < 2 ^ 32 → decimal (n / 10000) ++ lastFour n ≡ decimal n
+four-more n a b =
     let h : n < 4294967296 = b in
-    ap (λ (m : ℕ). decimal m ++ ((48 + n / 10 % 10) ∷ []) ++ ((48 + n % 10) ∷ [])) (let e : n / 100 ≡ n / 10 / 10 = omega arith in e)
-    ∙ sym (more-figures n (omega (arith, a)) b ∙ ap (λ (t : List ℕ). t ++ ((48 + n % 10) ∷ [])) (more-figures (n / 10) (omega (arith, a)) (omega (arith, h))))
+    let one : (m : ℕ) → 10 ≤ m → m < 4294967296 → decimal m ≡ decimal (m / 10) ++ ((48 + m % 10) ∷ []) = more-figures in
+    ap (λ (m : ℕ). decimal m ++ lastFour n) (let e : n / 10000 ≡ n / 10 / 10 / 10 / 10 = omega arith in e)
+    ∙ sym
+    (after-them n (decimal (n / 10 / 10 / 10 / 10)) _ (omega (arith, a)) h
+    (after-them (n / 10) (decimal (n / 10 / 10 / 10 / 10)) _ (omega (arith, a)) (omega (arith, h))
+    (after-them (n / 10 / 10) (decimal (n / 10 / 10 / 10 / 10)) _ (omega (arith, a)) (omega (arith, h))
+    (one (n / 10 / 10 / 10) (omega (arith, a)) (omega (arith, h))))))
+
+pub same-row : {a a′ : ℕ} {t t′ : List ℕ} → a ≡ a′ → t ≡ t′ → a ∷ t ≡ a′ ∷ t′
+same-row {a} {a′} {t} {t′} p q = ap (λ (x : ℕ). x ∷ t) p ∙ ap (λ (x : List ℕ). a′ ∷ x) q
+
+-- two of the hundredths, and two of the rest
+pub by-hundreds : (n : ℕ) → (48 + n / 100 / 10 % 10) ∷ (48 + n / 100 % 10) ∷ (48 + n % 100 / 10 % 10) ∷ (48 + n % 100 % 10) ∷ [] ≡ lastFour n
+by-hundreds n = same-row (omega arith) (same-row (omega arith) (same-row (omega arith) (same-row (omega arith) refl)))
 
 pub eight-figures : (n : ℕ) → hexadecimal 4 (n / 16 / 16 / 16 / 16) ++ hexadecimal 4 n ≡ hexadecimal 8 n
 unfolding hexadecimal
 eight-figures n = refl
+
+-- ---- a table of figures
+
+less-than : (i n : ℕ) → i < suc n → (i ≡ n → ⊥) → i < n
+less-than i n h k = decided (ltb i n) (λ t. ltb-true i n t) (λ t. absurd (k (let g = ltb-false i n t in omega (arith, g, h))))
+
+-- whether a test holds of every number below one
+abbrev pub every : (ℕ → Bool) → ℕ → Bool
+every p zero = true
+every p (suc n) = p n && every p n
+
+every-below : (p : ℕ → Bool) (n i : ℕ) → every p n ≡ true → i < n → p i ≡ true
+every-below p zero i q h = absurd (omega (arith, h))
+every-below p (suc n) i q h =
+    decided (eqb i n)
+    (λ t. ap p (eqb-true i n t) ∙ and-left (p n) (every p n) q)
+    (λ t. every-below p n i (and-right (p n) (every p n) q) (less-than i n h (eqb-false i n t)))
+
+-- the 16 figures, in their order
+abbrev pub figures : List ℕ
+figures = 48 ∷ 49 ∷ 50 ∷ 51 ∷ 52 ∷ 53 ∷ 54 ∷ 55 ∷ 56 ∷ 57 ∷ 65 ∷ 66 ∷ 67 ∷ 68 ∷ 69 ∷ 70 ∷ []
+
+pub the-figure : (i : ℕ) → i < 16 → getD figures i 0 ≡ figure i
+the-figure i h = eqb-true (getD figures i 0) (figure i) (every-below (λ (k : ℕ). eqb (getD figures k 0) (figure k)) 16 i refl h)
 
 -- ---- how many figures
 

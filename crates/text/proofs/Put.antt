@@ -1,14 +1,15 @@
 -- Text put after text is the two of them put at once, whether or not they fit. Assumes nothing.
-use Prim.Native.Nat.{ℕ, suc, _+_, _≤_, _<_, _^_}
+use Prim.Native.Nat.{ℕ, suc, _+_, _-_, _≤_, _<_, _^_}
 use native.Mathlib.Nat.{add-zero, add-suc, suc-add, add-assoc}
 use native.Mathlib.Numerals.{add-one}
 use native.Mathlib.Omega.{arith}
 use mathlib.Core.Path.{_≡_, refl, sym, ap, subst, _∙_}
+use mathlib.Core.Bool.{true}
 use mathlib.Core.List.{List, [], _∷_, _++_}
 use lib.ListN.{length, getD, set, take, length-append}
 use lib.Dec.{leb}
 use lib.Seq.{sets, set-out, length-sets, take-suc}
-use borrow.Author.Tests.{le-leb, leb-true, leb-false}
+use borrow.Author.Tests.{le-leb, lt-leb, leb-true, leb-false}
 use Rattle.words.proofs.Tests.{decided}
 use Rattle.text.specs.Put.{Put, place, lastPlace}
 
@@ -71,6 +72,24 @@ next-place at h = sym (place-within (at + 1) (omega arith))
 
 pub last-place : (at : ℕ) → lastPlace ≤ at → at ≤ lastPlace → at ≡ place (at + 1)
 last-place at h k = let e : at ≡ lastPlace = omega arith in e ∙ sym (place-beyond (at + 1) (omega arith))
+
+-- ---- bytes stored in a row
+
+pub room-test : (at n l : ℕ) → n ≤ l → leb at (l - n) ≡ leb (at + n) l
+room-test at n l h =
+    decided (leb at (l - n))
+    (λ t. t ∙ sym (le-leb (at + n) l (let g = leb-true at (l - n) t in omega (arith, g, h))))
+    (λ t. t ∙ sym (lt-leb (at + n) l (let g = leb-false at (l - n) t in omega (arith, g, h))))
+
+-- one more byte, at the next place
+pub and-one : (d e : List ℕ) (at : ℕ) (t : List ℕ) (v : ℕ) → e ≡ sets d at t → set e (at + length t) v ≡ sets d at (t ++ (v ∷ []))
+and-one d e at t v q = ap (λ (l : List ℕ). set l (at + length t) v) q ∙ sym (sets-append d at t (v ∷ []))
+
+pub row : (d e : List ℕ) (at : ℕ) (t : List ℕ) → e ≡ sets d at t → leb (at + length t) (length d) ≡ true → length d < 2 ^ 64 → Put d at t (at + length t) e
+row d e at t q room g =
+    let h : length d < 18446744073709551616 = g in
+    let fits = leb-true (at + length t) (length d) room in
+    record { goes-on = sym (place-within (at + length t) (omega (arith, fits, h))); holds = q }
 
 -- ---- a text byte by byte
 

@@ -2,11 +2,32 @@
 // measured by putting it into a buffer that is too short. Nothing is written into a buffer any other way.
 ghost use mathlib.Core.Path.{_≡_};
 ghost use mathlib.Core.List.{[], _∷_};
-ghost use Prim.Native.Nat.{_+_, _%_, _<_};
+ghost use Prim.Native.Nat.{_+_, _/_, _%_, _<_};
+ghost use lib.Dec.{leb};
 ghost use Rattle.text.specs.Figures.{figure, hexadecimal, decimal as decimalFigures};
 ghost use Rattle.text.specs.Put.{Put, place};
 
 pub mod written;
+
+// The figures 0 to 9 and A to F.
+const FIGURES: [u8; 16] = [
+    48,
+    49,
+    50,
+    51,
+    52,
+    53,
+    54,
+    55,
+    56,
+    57,
+    65,
+    66,
+    67,
+    68,
+    69,
+    70,
+];
 
 // The place after one.
 fn after(at: usize) -> usize
@@ -29,15 +50,6 @@ pub fn byte(out: &mut [u8], at: usize, b: u8) -> usize
     after(at)
 }
 
-// The last figure of a number in hexadecimal.
-fn figure_of(n: u32) -> u8
-    ensures { λ r. ⌜ r ≡ figure (n % 16) ⌝ }
-{
-    let digit = (n % 16) as u8;
-    let small = digit < 10;
-    if small { 48 + digit } else { 55 + digit }
-}
-
 pub fn bytes(out: &mut [u8], at: usize, text: &[u8]) -> usize
     ensures { λ r. ⌜ Put (now (out .entry)) at (now (text .entry)) r (now (out .exit)) ⌝ }
 {
@@ -50,21 +62,88 @@ pub fn bytes(out: &mut [u8], at: usize, text: &[u8]) -> usize
     place
 }
 
-// The last figure of a number in hexadecimal.
-fn hex1(out: &mut [u8], at: usize, n: u32) -> usize
-    ensures { λ r. ⌜ Put (now (out .entry)) at (figure (n % 16) ∷ []) r (now (out .exit)) ⌝ }
+// ---- some bytes at once: one test of the place for all of them where they fit
+
+// Whether so many bytes fit at a place of a buffer of that length.
+fn has_room(length: usize, at: usize, n: usize) -> bool
+    ensures { λ r. ⌜ r ≡ leb (at + n) length ⌝ }
 {
-    byte(out, at, figure_of(n))
+    if length < n {
+        return false;
+    }
+    at <= length - n
 }
 
-// The last four.
+fn two(out: &mut [u8], at: usize, a: u8, b: u8) -> usize
+    ensures { λ r. ⌜ Put (now (out .entry)) at (a ∷ b ∷ []) r (now (out .exit)) ⌝ }
+{
+    let room = has_room(out.len(), at, 2);
+    if room {
+        out[at] = a;
+        out[at + 1] = b;
+        return at + 2;
+    }
+    let next = byte(out, at, a);
+    byte(out, next, b)
+}
+
+fn three(out: &mut [u8], at: usize, a: u8, b: u8, c: u8) -> usize
+    ensures { λ r. ⌜ Put (now (out .entry)) at (a ∷ b ∷ c ∷ []) r (now (out .exit)) ⌝ }
+{
+    let room = has_room(out.len(), at, 3);
+    if room {
+        out[at] = a;
+        out[at + 1] = b;
+        out[at + 2] = c;
+        return at + 3;
+    }
+    let next = byte(out, at, a);
+    two(out, next, b, c)
+}
+
+fn four(out: &mut [u8], at: usize, a: u8, b: u8, c: u8, d: u8) -> usize
+    ensures { λ r. ⌜ Put (now (out .entry)) at (a ∷ b ∷ c ∷ d ∷ []) r (now (out .exit)) ⌝ }
+{
+    let room = has_room(out.len(), at, 4);
+    if room {
+        out[at] = a;
+        out[at + 1] = b;
+        out[at + 2] = c;
+        out[at + 3] = d;
+        return at + 4;
+    }
+    let next = two(out, at, a, b);
+    two(out, next, c, d)
+}
+
+// ---- hexadecimal
+
+// The last figure of a number in hexadecimal.
+fn hex_figure(n: u32) -> u8
+    ensures { λ r. ⌜ r ≡ figure (n % 16) ⌝ }
+{
+    FIGURES[(n % 16) as usize]
+}
+
+// A byte in two figures after one space.
+pub fn spaced_hex2(out: &mut [u8], at: usize, n: u8) -> usize
+    ensures { λ r. ⌜ Put (now (out .entry)) at (32 ∷ hexadecimal 2 n) r (now (out .exit)) ⌝ }
+{
+    three(out, at, 32, hex_figure(n as u32 / 16), hex_figure(n as u32))
+}
+
+// The last four figures.
 fn hex4(out: &mut [u8], at: usize, n: u32) -> usize
     ensures { λ r. ⌜ Put (now (out .entry)) at (hexadecimal 4 n) r (now (out .exit)) ⌝ }
 {
-    let a = hex1(out, at, n / 16 / 16 / 16);
-    let b = hex1(out, a, n / 16 / 16);
-    let c = hex1(out, b, n / 16);
-    hex1(out, c, n)
+    four(
+        out,
+        at,
+        hex_figure(n / 16 / 16 / 16),
+        hex_figure(n / 16 / 16),
+        hex_figure(n / 16),
+        hex_figure(n),
+    )
 }
 
 pub fn hex8(out: &mut [u8], at: usize, n: u32) -> usize
@@ -74,33 +153,67 @@ pub fn hex8(out: &mut [u8], at: usize, n: u32) -> usize
     hex4(out, a, n)
 }
 
-pub fn hex2(out: &mut [u8], at: usize, n: u8) -> usize
-    ensures { λ r. ⌜ Put (now (out .entry)) at (hexadecimal 2 n) r (now (out .exit)) ⌝ }
+// ---- decimal
+
+// The last figure of a number in decimal.
+fn figure_of(n: u32) -> u8
+    ensures { λ r. ⌜ r ≡ 48 + n % 10 ⌝ }
 {
-    let a = hex1(out, at, n as u32 / 16);
-    hex1(out, a, n as u32)
+    (48 + n % 10) as u8
 }
 
-// A number of one or two figures in decimal.
-fn below_hundred(out: &mut [u8], at: usize, n: u32) -> usize
-    requires { ⌜ n < 100 ⌝ }
+// The last four figures.
+fn last_four(out: &mut [u8], at: usize, n: u32) -> usize
+    ensures { λ r. ⌜ Put (now (out .entry)) at ((48 + n / 10 / 10 / 10 % 10) ∷ (48 + n / 10 / 10 % 10) ∷ (48 + n / 10 % 10) ∷ (48 + n % 10) ∷ []) r (now (out .exit)) ⌝ }
+{
+    let high = n / 100;
+    let low = n % 100;
+    four(
+        out,
+        at,
+        figure_of(high / 10),
+        figure_of(high),
+        figure_of(low / 10),
+        figure_of(low),
+    )
+}
+
+// A number of at most four figures.
+fn few(out: &mut [u8], at: usize, n: u32) -> usize
+    requires { ⌜ n < 10000 ⌝ }
     ensures { λ r. ⌜ Put (now (out .entry)) at (decimalFigures n) r (now (out .exit)) ⌝ }
 {
     if n < 10 {
-        return byte(out, at, (48 + n % 10) as u8);
+        return byte(out, at, figure_of(n));
     }
-    let a = byte(out, at, (48 + n / 10 % 10) as u8);
-    byte(out, a, (48 + n % 10) as u8)
+    if n < 100 {
+        return two(out, at, figure_of(n / 10), figure_of(n));
+    }
+    if n < 1000 {
+        return three(
+            out,
+            at,
+            figure_of(n / 10 / 10),
+            figure_of(n / 10),
+            figure_of(n),
+        );
+    }
+    last_four(out, at, n)
 }
 
-// A number in decimal: the figures of its hundredth, if there is one, and two more.
+// A number in decimal: the figures of its ten-thousandth, if there is one, and four more.
 pub fn decimal(out: &mut [u8], at: usize, n: u32) -> usize
     ensures { λ r. ⌜ Put (now (out .entry)) at (decimalFigures n) r (now (out .exit)) ⌝ }
 {
-    if n < 100 {
-        return below_hundred(out, at, n);
+    if n < 10000 {
+        return few(out, at, n);
     }
-    let a = decimal(out, at, n / 100);
-    let b = byte(out, a, (48 + n / 10 % 10) as u8);
-    byte(out, b, (48 + n % 10) as u8)
+    let high = n / 10000;
+    if high < 10000 {
+        let a = few(out, at, high);
+        return last_four(out, a, n);
+    }
+    let b = few(out, at, high / 10000);
+    let c = last_four(out, b, high);
+    last_four(out, c, n)
 }
