@@ -1,7 +1,7 @@
 -- The answer and the buffer, for every answer of the check. Assumes nothing.
 use Prim.Native.Nat.{ℕ, _+_, _*_, _≤_, _<_}
 use native.Mathlib.Omega.{arith}
-use mathlib.Core.Path.{_≡_, refl, sym, ap, subst, _∙_}
+use mathlib.Core.Path.{_≡_, refl, sym, subst}
 use mathlib.Core.Bool.{true, false}
 use mathlib.Core.List.{List}
 use lib.ListN.{length, getD}
@@ -13,14 +13,14 @@ use Rattle.codec.specs.declared.frame.Answer.the-variants.{Accepted, Refused}
 use Rattle.text.specs.declared.written.Written.{Written}
 use Rattle.text.specs.declared.written.Written.the-variants.{Text, Refused as NotListed}
 use Rattle.text.specs.Put.{Put, place, lastPlace}
-use Rattle.text.specs.Written.{Fitted, refusedLine}
-use Rattle.text.proofs.Put.{place-within, put-as}
-use Rattle.text.proofs.Fitted.{short-refused as too-short, text-written, text-not-refused, text-put, refused-same as fitted-same}
+use Rattle.text.specs.Written.{Fitted}
+use Rattle.text.proofs.Put.{place-within}
+use Rattle.text.proofs.Fitted.{short-refused as too-short, text-written, text-not-refused, refused-same as fitted-same}
 use Rattle.log.specs.Layout.{countOf}
 use Rattle.log.specs.Check.{checked}
 use Rattle.log.proofs.Parts.{laid-out}
 use Rattle.log.proofs.Runs.{sound}
-use Rattle.listing.specs.Listing.{listingOf, isShort, answerBy, AnsweredBy, ListingAnswered, outputBy, outputOf}
+use Rattle.listing.specs.Listing.{listingOf, isShort, answerBy, AnsweredBy, ListingAnswered}
 use Rattle.listing.proofs.Bounds.{listing-length}
 
 -- ---- lengths
@@ -74,15 +74,3 @@ same-by (Refused w) s held after why x = x .holds
 -- a refusal leaves the buffer as it came
 pub refused-same : (s held after : List ℕ) (why : Refusal) → ListingAnswered s held (NotListed why) after → after ≡ held
 refused-same s held after why x = same-by (checked s) s held after why x
-
--- ---- what the program writes
-
-pub output-text : (s d e : List ℕ) (l : Written) (n : ℕ) → ((i : ℕ) → getD s i 0 < 256) → l ≡ Text n → ListingAnswered s d l e → Put d 0 (outputOf s (length d)) n e
-output-text s d e l n bytes q x =
-    let both = text-fitted s d e n (subst (λ (y : Written). ListingAnswered s d y e) q x) in
-    put-as (ap (λ (y : Written). outputBy y s) (sym q ∙ answered-by (checked s) s d e l x)) (text-put (listingOf s) d e n (within s bytes (both .0)) (both .1))
-
-pub output-refused : (s d e f : List ℕ) (l : Written) (why : Refusal) (r : ℕ) → l ≡ NotListed why → ListingAnswered s d l e → Put e 0 (refusedLine why) r f → Put d 0 (outputOf s (length d)) r f
-output-refused s d e f l why r q x p =
-    put-as (ap (λ (y : Written). outputBy y s) (sym q ∙ answered-by (checked s) s d e l x))
-    (subst (λ (b : List ℕ). Put b 0 (refusedLine why) r f) (refused-same s d e why (subst (λ (y : Written). ListingAnswered s d y e) q x)) p)

@@ -15,7 +15,7 @@ use Rattle.rules.specs.History.{storedAfter, replyTo}
 use Rattle.rules.specs.Given.{Given, givenReply}
 use Rattle.monitor.specs.Bench.{answeredTo, after}
 use Rattle.monitor.specs.Answers.{toldOutcome}
-use Rattle.listing.specs.Listing.{outputOf}
+use Rattle.listing.specs.Output.{outputOf}
 
 pub data Case : Type 0 where
   -- the bytes of a log, and the whole output of the program that replays it
@@ -52,12 +52,8 @@ pub record Runs (p : PowerOn) (es : List Event) (due : Shown) : Type 0 where
 
 -- ---- what must come out comes out
 
--- the buffer of the program that replays a log
-abbrev pub room : ℕ
-room = 138057
-
 abbrev pub Holds : Case → Type 0
-Holds (replays log text) = outputOf log room ≡ text
+Holds (replays log text) = outputOf log ≡ text
 Holds (runs p es said stored) = Runs p es (record { replies = allAccepted said; stored = stored })
 Holds (answers challenge bytes) = answerTo challenge ≡ bytes
 Holds (reports kind expected f values) = toldReport (readReport kind expected f) ≡ answer values
