@@ -3,5 +3,6 @@ pub mod Table
 pub mod Reading
 pub mod Building
 pub mod ReadsBack
+pub mod ReadBytes
 pub mod BuildsBack
 pub mod Promise

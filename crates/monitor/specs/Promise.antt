@@ -17,8 +17,11 @@ use Rattle.rules.specs.Demand.{Demand}
 use Rattle.rules.specs.Given.{on, ticks, givenReply}
 use Rattle.rules.specs.Promise.{Fresh, OnIdentifier, stateOf}
 use Rattle.monitor.specs.declared.bench.Bench.{Bench}
+use Rattle.monitor.specs.declared.bench.Outcome.{Outcome}
+use Rattle.monitor.specs.declared.bench.PoweredOn.{PoweredOn}
 use Rattle.monitor.specs.declared.bench.UptimeReading.the-variants.{Read as Ticked}
 use Rattle.monitor.specs.Bench.{answeredTo, poweredOn, uptimeAsked, benchAt, after}
+use Rattle.monitor.specs.Reached.{EventAnswered, PowerOnAnswered}
 use Rattle.monitor.specs.Answers.{toldOutcome, toldPowerOn, toldUptime, eventConditions, powerOnConditions, uptimeConditions}
 
 -- ---- answered or refused
@@ -71,11 +74,19 @@ pub record WorkedOut (p : PowerOn) (h : List Event) : Type 0 where
   pub start : (t : Stamp) → lastStamp p h .0 ≤ t .0 → woken t (after p h .monitor) .start ≡ lastStart p h t
   pub uptime : (t : Stamp) → lastStamp p h .0 ≤ t .0 → uptimeAsked t (after p h) ≡ Ticked (ticksBetween (lastStart p h t) t)
 
+-- ---- one outcome only
+
+-- any two outcomes that a contract allows are equal. (The other functions of the bench answer by an equation.)
+pub record OneOutcome : Type 0 where
+  pub event : (e : Event) (b : Bench) (o o′ : Outcome) → EventAnswered e b o → EventAnswered e b o′ → o ≡ o′
+  pub power-on : (p : PowerOn) (r r′ : PoweredOn) → PowerOnAnswered p r → PowerOnAnswered p r′ → r ≡ r′
+
 -- ---- the promise
 
 pub record Promise : Type 0 where
   pub events : (e : Event) (b : Bench) → Handles e b
   pub power-on : (p : PowerOn) → PowersOn p
+  pub one : OneOutcome
   pub uptime : (at : Stamp) (b : Bench) → Answers (toldUptime (uptimeAsked at b)) (uptimeConditions at b) (ticks ((at .0 - woken at (b .monitor) .start .0) / 10))
   pub history : (p : PowerOn) → IsAccepted p → (h : List Event) → Holds p h
   pub runs : (p : PowerOn) → RunsAreAccepted p

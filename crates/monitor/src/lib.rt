@@ -1,8 +1,14 @@
 // The bench monitor: a model of the SIM101 and its maintenance mode, by the rules of the crate below.
 //
-//     time   stamps compared, and the ticks between two of them
-//     unit   the monitor itself: given events that are within the limits and in order, it refuses nothing
-//     bench  the monitor with the last accepted stamp: power-on, events and the uptime question, and their refusals
+//     time     stamps compared, and the ticks between two of them
+//     turn     what an event may leave
+//     outside  a frame heard outside a session
+//     session  a frame heard in a session
+//     unit     the monitor itself: given events that are within the limits and in order, it refuses nothing
+//     bench    the monitor with the last accepted stamp: power-on, events and the uptime question, and their refusals
 pub mod bench;
+mod outside;
+mod session;
 pub mod time;
+mod turn;
 pub mod unit;

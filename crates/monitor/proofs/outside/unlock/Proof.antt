@@ -1,7 +1,7 @@
--- `monitor::unit::unlock` meets its contract: by whether the window has passed. Assumes nothing.
+-- `monitor::outside::unlock` meets its contract: by whether the window has passed. Assumes nothing.
 use mathlib.Core.Path.{sym, _∙_}
-use Rattle.monitor.proofs.unit.unlock.Statement.{statement}
-use Rattle.monitor.proofs.unit.unlock.Tie as tie
+use Rattle.monitor.proofs.outside.unlock.Statement.{statement}
+use Rattle.monitor.proofs.outside.unlock.Tie as tie
 
 returns : tie.Need-returns
 returns c = rw (sym (c .before .before .past-limit .ensures) ∙ c .before .if1 .taken) (c .give-up .ensures)

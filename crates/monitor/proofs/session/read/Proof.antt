@@ -1,6 +1,6 @@
--- `monitor::unit::read` meets its contract: the value in the draft. Assumes nothing.
-use Rattle.monitor.proofs.unit.read.Statement.{statement}
-use Rattle.monitor.proofs.unit.read.Tie as tie
+-- `monitor::session::read` meets its contract: the value in the draft. Assumes nothing.
+use Rattle.monitor.proofs.session.read.Statement.{statement}
+use Rattle.monitor.proofs.session.read.Tie as tie
 
 returns : tie.Need-returns
 returns c = rw (c .go-on .ensures, c .before .value-reply .ensures, c .before .before .value-of .ensures)

@@ -1,8 +1,8 @@
--- `monitor::unit::answer` meets its contract: by what is pending, and whether the answer is right and timely. Assumes nothing.
+-- `monitor::outside::answer` meets its contract: by what is pending, and whether the answer is right and timely. Assumes nothing.
 use mathlib.Core.Path.{sym}
 use borrow.Author.Needs.{needs}
-use Rattle.monitor.proofs.unit.answer.Statement.{statement}
-use Rattle.monitor.proofs.unit.answer.Tie as tie
+use Rattle.monitor.proofs.outside.answer.Statement.{statement}
+use Rattle.monitor.proofs.outside.answer.Tie as tie
 
 returns : tie.Need-returns
 returns c = rw (c .before .before .before .before .before .before .before .pending .given .1, sym (c .before .before .before .before .is-right .ensures), sym (c .before .before .before .past-limit .ensures), c .before .before .if1 .taken, c .go-on .ensures, c .before .ack-reply .ensures)

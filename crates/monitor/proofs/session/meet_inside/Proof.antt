@@ -1,7 +1,7 @@
--- `monitor::unit::meet_inside` meets its contract: by what the frame says. Assumes nothing.
+-- `monitor::session::meet_inside` meets its contract: by what the frame says. Assumes nothing.
 use borrow.Author.Needs.{needs}
-use Rattle.monitor.proofs.unit.meet_inside.Statement.{statement}
-use Rattle.monitor.proofs.unit.meet_inside.Tie as tie
+use Rattle.monitor.proofs.session.meet_inside.Statement.{statement}
+use Rattle.monitor.proofs.session.meet_inside.Tie as tie
 
 returns : tie.Need-returns
 returns c = rw (c .before .before .message .given .1) (c .read .ensures)

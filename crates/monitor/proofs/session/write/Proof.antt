@@ -1,7 +1,7 @@
--- `monitor::unit::write` meets its contract: by whether the value is legal. Assumes nothing.
+-- `monitor::session::write` meets its contract: by whether the value is legal. Assumes nothing.
 use mathlib.Core.Path.{sym, _∙_}
-use Rattle.monitor.proofs.unit.write.Statement.{statement}
-use Rattle.monitor.proofs.unit.write.Tie as tie
+use Rattle.monitor.proofs.session.write.Statement.{statement}
+use Rattle.monitor.proofs.session.write.Tie as tie
 
 returns : tie.Need-returns
 returns c = rw (sym (c .before .before .before .before .is-legal .ensures) ∙ c .before .before .before .if1 .taken, c .go-on .ensures, c .before .before .with-value .ensures, c .before .ack-reply .ensures)

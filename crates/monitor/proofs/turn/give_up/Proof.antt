@@ -1,6 +1,6 @@
--- `monitor::unit::give_up` meets its contract: NAK outside a session. Assumes nothing.
-use Rattle.monitor.proofs.unit.give_up.Statement.{statement}
-use Rattle.monitor.proofs.unit.give_up.Tie as tie
+-- `monitor::turn::give_up` meets its contract: NAK outside a session. Assumes nothing.
+use Rattle.monitor.proofs.turn.give_up.Statement.{statement}
+use Rattle.monitor.proofs.turn.give_up.Tie as tie
 
 returns : tie.Need-returns
 returns c = rw (c .move-to .ensures, c .before .nak-reply .ensures)

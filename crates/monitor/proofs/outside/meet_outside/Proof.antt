@@ -1,7 +1,7 @@
--- `monitor::unit::meet_outside` meets its contract: by what the frame says. Assumes nothing.
+-- `monitor::outside::meet_outside` meets its contract: by what the frame says. Assumes nothing.
 use borrow.Author.Needs.{needs}
-use Rattle.monitor.proofs.unit.meet_outside.Statement.{statement}
-use Rattle.monitor.proofs.unit.meet_outside.Tie as tie
+use Rattle.monitor.proofs.outside.meet_outside.Statement.{statement}
+use Rattle.monitor.proofs.outside.meet_outside.Tie as tie
 
 returns : tie.Need-returns
 returns c = rw (c .before .enum-told .given .1) (c .unlock .ensures)

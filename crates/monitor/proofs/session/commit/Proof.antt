@@ -1,6 +1,6 @@
--- `monitor::unit::commit` meets its contract: by whether storage works. Assumes nothing.
-use Rattle.monitor.proofs.unit.commit.Statement.{statement}
-use Rattle.monitor.proofs.unit.commit.Tie as tie
+-- `monitor::session::commit` meets its contract: by whether storage works. Assumes nothing.
+use Rattle.monitor.proofs.session.commit.Statement.{statement}
+use Rattle.monitor.proofs.session.commit.Tie as tie
 
 returns : tie.Need-returns
 returns c = rw (c .before .before .if1 .taken, c .before .start-again .ensures, c .ack-reply .ensures)
