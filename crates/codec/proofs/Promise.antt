@@ -16,4 +16,6 @@ promise =
       requests-read-back = request-reads-back;
       reports-build-back = report-builds-back;
       requests-build-back = request-builds-back;
+      reports-past-length = λ k expected f r h g q. report-reads-back k expected r _ g (report-builds-back k expected f r h q);
+      requests-past-length = λ k expected f r h g q. request-reads-back k expected r _ g (request-builds-back k expected f r h q);
     }

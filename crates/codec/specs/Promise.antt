@@ -55,6 +55,13 @@ ReportBuildsBack = (k : Kind) (expected : ℕ) (f : Frame) (r : Report) → Held
 abbrev pub RequestBuildsBack : Type 0
 RequestBuildsBack = (k : Kind) (expected : ℕ) (f : Frame) (r : Request) → HeldFrame f → readRequest k expected f ≡ Asked r → buildRequest k expected r ≡ accepted (cleared (cond (isSim100 k) (f .length) 1) f)
 
+-- "Bytes past the length are ignored on reading.": with zeros there, and in the two places above, the same is read
+abbrev pub ReportPastLength : Type 0
+ReportPastLength = (k : Kind) (expected : ℕ) (f : Frame) (r : Report) → HeldFrame f → HeldReport r → readReport k expected f ≡ Read r → readReport k expected (cleared (cond (isSim100 k && eqb (muxOf f) 0xE5) 3 (f .length)) f) ≡ Read r
+
+abbrev pub RequestPastLength : Type 0
+RequestPastLength = (k : Kind) (expected : ℕ) (f : Frame) (r : Request) → HeldFrame f → HeldRequest r → readRequest k expected f ≡ Asked r → readRequest k expected (cleared (cond (isSim100 k) (f .length) 1) f) ≡ Asked r
+
 -- ---- the promise
 
 pub record Promise : Type 0 where
@@ -66,3 +73,5 @@ pub record Promise : Type 0 where
   pub requests-read-back : RequestReadsBack
   pub reports-build-back : ReportBuildsBack
   pub requests-build-back : RequestBuildsBack
+  pub reports-past-length : ReportPastLength
+  pub requests-past-length : RequestPastLength

@@ -19,7 +19,7 @@ use Rattle.maintenance.specs.declared.message.Message.{Message}
 use Rattle.maintenance.specs.declared.message.Message.the-variants.{Other, Unlock, Commit, Answer, SerialRequest, Read, Write}
 use Rattle.maintenance.specs.Settings.{code, settingOf}
 use Rattle.maintenance.specs.Messages.{byte, isUnlock, isCommit, isAnswer, asksSerial, asRead, asWrite, message, sameSeven, challengeOf, answerTo}
-use Rattle.maintenance.specs.Promise.{Says, RightMeans}
+use Rattle.maintenance.specs.Promise.{Says, HeardMeans, RightMeans}
 
 -- ---- codes
 
@@ -152,6 +152,12 @@ itself n = eq-eqb n n refl
 seven-same : (xs ys : List ℕ) → xs ≡ ys → sameSeven xs ys ≡ true
 seven-same xs ys e =
     rw (e, itself (getD ys 0 0), itself (getD ys 1 0), itself (getD ys 2 0), itself (getD ys 3 0), itself (getD ys 4 0), itself (getD ys 5 0), itself (getD ys 6 0)) refl
+
+pub heard-means : HeardMeans
+heard-means k f = (
+  λ t. (and-left (f .extended) (eqb (f .identifier) (k .receive)) t, eqb-true (f .identifier) (k .receive) (and-right (f .extended) (eqb (f .identifier) (k .receive)) t)),
+  λ h. rw (h .0, eq-eqb (f .identifier) (k .receive) (h .1)) refl,
+)
 
 pub right-means : RightMeans
 right-means serial f = (

@@ -10,8 +10,8 @@ use Rattle.maintenance.specs.declared.setting.Setting.the-variants.{Rece
 use Rattle.maintenance.specs.declared.setting.Named.{Named}
 use Rattle.maintenance.specs.declared.setting.Named.the-variants.{Unknown, Known}
 use Rattle.maintenance.specs.declared.setting.Settings.{Settings}
-use Rattle.maintenance.specs.Settings.{code, settingOf, legal, accepted, speedNumber}
-use Rattle.maintenance.specs.Promise.{NegativeRefused}
+use Rattle.maintenance.specs.Settings.{code, settingOf, legal, accepted, withValue, speedNumber}
+use Rattle.maintenance.specs.Promise.{EqualAccepted, NegativeRefused}
 use Rattle.words.proofs.Tests.{by-test, and-left, and-right, and-false}
 
 -- ---- negative values
@@ -74,6 +74,12 @@ accepted-parts rating k t =
       warning = p .1 .1 .1 .1 .1 .0;
       fault = p .1 .1 .1 .1 .1 .1;
     }
+
+pub equal-accepted : EqualAccepted
+equal-accepted rating k t =
+    let p = accepted-parts rating k t in
+    parts-accepted rating (withValue k TransmitId (k .receive))
+    (record { rated = p .rated; receive = p .receive; transmit = p .receive; speed = p .speed; voltage = p .voltage; warning = p .warning; fault = p .fault })
 
 -- ---- what it means for the values
 

@@ -8,9 +8,11 @@ use Rattle.words.specs.Words.{Bytes}
 use Rattle.codec.specs.declared.frame.Frame.{Frame}
 use Rattle.codec.specs.Table.{part, numberAt}
 use Rattle.maintenance.specs.declared.setting.Setting.{Setting}
+use Rattle.maintenance.specs.declared.setting.Setting.the-variants.{TransmitId}
+use Rattle.maintenance.specs.declared.setting.Settings.{Settings}
 use Rattle.maintenance.specs.declared.message.Message.the-variants.{Unlock, Commit, Answer, SerialRequest, Read, Write}
-use Rattle.maintenance.specs.Settings.{code, legal}
-use Rattle.maintenance.specs.Messages.{byte, isUnlock, isCommit, isAnswer, message, challengeOf, answerTo, isRight, says, serialReport}
+use Rattle.maintenance.specs.Settings.{code, legal, accepted, withValue}
+use Rattle.maintenance.specs.Messages.{byte, isUnlock, isCommit, isAnswer, message, heardOn, challengeOf, answerTo, isRight, says, serialReport}
 
 -- ---- messages
 
@@ -23,9 +25,17 @@ pub record Says (f : Frame) : Type 0 where
   pub read : (s : Setting) → f .length ≡ 1 → byte f 0 ≡ code s → message f ≡ Read s
   pub write : (s : Setting) → f .length ≡ 5 → byte f 0 ≡ code s → message f ≡ Write s (numberAt (f .bytes) 1 4)
 
+-- "A frame is heard when it is extended and its identifier equals the stored receive identifier."
+abbrev pub HeardMeans : Type 0
+HeardMeans = (k : Settings) (f : Frame) → heardOn k f ≡ true ↔ (f .extended ≡ true) × (f .identifier ≡ k .receive)
+
 -- an answer is right exactly when its seven bytes are the answer to the challenge
 abbrev pub RightMeans : Type 0
 RightMeans = (serial : List ℕ) (f : Frame) → isRight serial f ≡ true ↔ part (f .bytes) 1 7 ≡ answerTo (challengeOf serial)
+
+-- "Equal identifiers are accepted (house)."
+abbrev pub EqualAccepted : Type 0
+EqualAccepted = (rating : ℕ) (k : Settings) → accepted rating k ≡ true → accepted rating (withValue k TransmitId (k .receive)) ≡ true
 
 -- "A value with its top bit set is negative and refused by NAK."
 abbrev pub NegativeRefused : Type 0
@@ -42,6 +52,8 @@ pub record SerialWords (transmit : ℕ) (serial : List ℕ) : Type 0 where
 
 pub record Promise : Type 0 where
   pub messages : (f : Frame) → Says f
+  pub heard : HeardMeans
   pub right : RightMeans
+  pub equal-identifiers : EqualAccepted
   pub negative : NegativeRefused
   pub serial-words : (transmit : ℕ) (serial : List ℕ) → transmit ≤ 0x1FFFFFFF → Bytes serial → SerialWords transmit serial
