@@ -1,4 +1,4 @@
--- Reports: what each row of the table says, read from a frame's bytes and built into a frame.
+-- Reports: what each row of the table says, read from a frame's bytes.
 use Prim.Native.Nat.{ℕ, _/_, _%_}
 use mathlib.Core.Bool.{Bool, true, false, not, cond, _&&_, _||_}
 use mathlib.Core.List.{List}

@@ -146,7 +146,7 @@ fn challenge_of(serial: [u8; 16]) -> [u8; 7]
     ]
 }
 
-// The right answer to a challenge, for setters and tests: the seven bytes after 14.
+// The right answer to a challenge: "xored with the seven constants 53 4E 44 53 49 4D 42". The seven bytes after 14.
 pub fn answer_to(challenge: [u8; 7]) -> [u8; 7]
     ensures { λ r. ⌜ r ≡ answerTo challenge ⌝ }
 {

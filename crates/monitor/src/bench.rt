@@ -1,4 +1,5 @@
-// The monitor on the bench: with the last accepted stamp it gives the refusals. A refused call returns the bench it was given.
+// The monitor on the bench: with the last accepted stamp it gives the refusals. A refused event returns the very bench it was given; a refused power-on has none,
+// and an uptime question returns a number alone.
 ghost use mathlib.Core.Path.{_≡_};
 ghost use Rattle.rules.specs.Events.{frameEvent, resetEvent};
 ghost use Rattle.monitor.specs.Bench.{noBench, refusedBy, acceptedAt, uptimeAsked};

@@ -1,6 +1,7 @@
 // Answers as lines of text.
 use codec::frame::Answer;
 use maintenance::message::Reply;
+use maintenance::setting::speed_number;
 use monitor::bench::Bench;
 use monitor::bench::Outcome;
 use monitor::bench::UptimeReading;
@@ -14,14 +15,6 @@ use show::spaced;
 use show::text;
 use show::value;
 
-fn speed(n: u32) {
-    if n == 0x00CA0250 {
-        text(b" 250 ");
-    } else {
-        text(b" 500 ");
-    }
-}
-
 // The second part of a line, with its end.
 pub fn settings(b: Bench) {
     let k = stored(monitor(b));
@@ -29,8 +22,8 @@ pub fn settings(b: Bench) {
     hex32(k.receive);
     text(b" ");
     hex32(k.transmit);
-    speed(k.speed);
-    io::print_decimal(1, k.voltage as u64);
+    value(speed_number(k.speed) as u64);
+    value(k.voltage as u64);
     value(k.warning as u64);
     value(k.fault as u64);
     text(b"\n");

@@ -13,7 +13,6 @@ use Rattle.codec.specs.Table.{part, numberAt}
 use Rattle.maintenance.specs.declared.setting.Setting.{Setting}
 use Rattle.maintenance.specs.declared.setting.Named.{Named}
 use Rattle.maintenance.specs.declared.setting.Named.the-variants.{Unknown, Known}
-use Rattle.maintenance.specs.declared.setting.Settings.{Settings}
 use Rattle.maintenance.specs.Settings.{code, settingOf, legal, valueOf, withValue}
 use Rattle.maintenance.specs.Messages.{byte, isUnlock, isCommit, isAnswer, asksSerial, answerTo, serialReport, quiet, says}
 use Rattle.rules.specs.declared.time.Stamp.{Stamp}
@@ -21,18 +20,14 @@ use Rattle.rules.specs.declared.unit.Pending.{Pending}
 use Rattle.rules.specs.declared.unit.Pending.the-variants.{Nothing, Since}
 use Rattle.rules.specs.declared.unit.Session.{Session}
 use Rattle.rules.specs.declared.unit.Phase.{Phase}
-use Rattle.rules.specs.declared.unit.Phase.the-variants.{Outside, InSession}
+use Rattle.rules.specs.declared.unit.Phase.the-variants.{Outside}
 use Rattle.rules.specs.declared.unit.Monitor.{Monitor}
 use Rattle.rules.specs.declared.unit.Turn.{Turn}
-use Rattle.rules.specs.Rules.{turn, inPhase, started, framed}
+use Rattle.rules.specs.Rules.{sessionAt, turn, inPhase, started, framed}
 
 -- the monitor in a phase, with these bytes sent on the stored transmit identifier
 abbrev pub moves : Monitor → Phase → List ℕ → Turn
 moves m phase bytes = turn (inPhase phase m) (says (m .stored .transmit) bytes)
-
--- a session that goes on from a stamp with a draft
-abbrev pub session : Stamp → Settings → Phase
-session at draft = InSession (record { heard = at; draft = draft })
 
 -- "ACK is 41 43 4B, NAK is 4E 41 4B"
 abbrev pub ACK : List ℕ
@@ -50,7 +45,7 @@ Right m f = part (f .bytes) 1 7 ≡ answerTo (part (m .serial) 0 7)
 pub record OutsideReplies (m : Monitor) (pending : Pending) (at : Stamp) (storing : Bool) (f : Frame) : Type 0 where
   pub unlock : isUnlock f ≡ true → at .0 ≤ m .start .0 + 10000 → framed at storing f m ≡ moves m (Outside (Since at)) (0x14 ∷ part (m .serial) 0 7)
   pub late-unlock : isUnlock f ≡ true → m .start .0 + 10000 < at .0 → framed at storing f m ≡ moves m (Outside Nothing) NAK
-  pub answer : (since : Stamp) → isAnswer f ≡ true → pending ≡ Since since → Right m f → at .0 ≤ since .0 + 2000 → framed at storing f m ≡ moves m (session at (m .stored)) ACK
+  pub answer : (since : Stamp) → isAnswer f ≡ true → pending ≡ Since since → Right m f → at .0 ≤ since .0 + 2000 → framed at storing f m ≡ moves m (sessionAt at (m .stored)) ACK
   pub wrong-answer : (since : Stamp) → isAnswer f ≡ true → pending ≡ Since since → (Right m f → ⊥) → framed at storing f m ≡ moves m (Outside Nothing) NAK
   pub late-answer : (since : Stamp) → isAnswer f ≡ true → pending ≡ Since since → since .0 + 2000 < at .0 → framed at storing f m ≡ moves m (Outside Nothing) NAK
   pub no-challenge : isAnswer f ≡ true → pending ≡ Nothing → framed at storing f m ≡ turn m quiet
@@ -68,9 +63,9 @@ abbrev pub coded : ℕ → Frame → Bool
 coded length f = eqb (f .length) length && known (settingOf (byte f 0))
 
 pub record SessionReplies (m : Monitor) (s : Session) (at : Stamp) (storing : Bool) (f : Frame) : Type 0 where
-  pub read : (k : Setting) → f .length ≡ 1 → byte f 0 ≡ code k → framed at storing f m ≡ moves m (session at (s .draft)) (code k ∷ bytesOf Big 4 (valueOf (s .draft) k))
-  pub write : (k : Setting) → f .length ≡ 5 → byte f 0 ≡ code k → legal (m .rating) k (numberAt (f .bytes) 1 4) ≡ true → framed at storing f m ≡ moves m (session at (withValue (s .draft) k (numberAt (f .bytes) 1 4))) ACK
-  pub illegal-write : (k : Setting) → f .length ≡ 5 → byte f 0 ≡ code k → legal (m .rating) k (numberAt (f .bytes) 1 4) ≡ false → framed at storing f m ≡ moves m (session at (s .draft)) NAK
+  pub read : (k : Setting) → f .length ≡ 1 → byte f 0 ≡ code k → framed at storing f m ≡ moves m (sessionAt at (s .draft)) (code k ∷ bytesOf Big 4 (valueOf (s .draft) k))
+  pub write : (k : Setting) → f .length ≡ 5 → byte f 0 ≡ code k → legal (m .rating) k (numberAt (f .bytes) 1 4) ≡ true → framed at storing f m ≡ moves m (sessionAt at (withValue (s .draft) k (numberAt (f .bytes) 1 4))) ACK
+  pub illegal-write : (k : Setting) → f .length ≡ 5 → byte f 0 ≡ code k → legal (m .rating) k (numberAt (f .bytes) 1 4) ≡ false → framed at storing f m ≡ moves m (sessionAt at (s .draft)) NAK
   pub commit : isCommit f ≡ true → storing ≡ true → framed at storing f m ≡ turn (started at (s .draft) m) (says (m .stored .transmit) ACK)
   pub failed-commit : isCommit f ≡ true → storing ≡ false → framed at storing f m ≡ turn (started at (m .stored) m) (says (m .stored .transmit) NAK)
-  pub all-else : isCommit f ≡ false → coded 1 f ≡ false → coded 5 f ≡ false → framed at storing f m ≡ moves m (session at (s .draft)) NAK
+  pub all-else : isCommit f ≡ false → coded 1 f ≡ false → coded 5 f ≡ false → framed at storing f m ≡ moves m (sessionAt at (s .draft)) NAK

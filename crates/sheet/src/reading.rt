@@ -13,7 +13,7 @@ pub enum Judged {
     Wrong(u8),
 }
 
-// The settings of a sheet, or the number of the refusal.
+// The settings of a sheet, or why the bytes are none.
 pub enum SheetRead {
     Settings(Settings),
     Refused(Refusal),

@@ -1,9 +1,7 @@
-// Numbers, frames and refusals as text on standard output, the way the programs that answer cases print them.
-ghost use mathlib.Core.Path.{_≡_};
-ghost use Prim.Native.Nat.{_%_};
-ghost use Rattle.show.specs.Digits.{hexDigit};
+// Numbers, frames and refusals on standard output, the way the programs that answer cases print them; and the first bytes of a text.
 use codec::frame::Frame;
 use refusal::Refusal;
+use text::hex_figure;
 use words::Order;
 use words::word::bytes32;
 
@@ -20,18 +18,9 @@ pub fn first(s: &[u8], n: usize) {
     }
 }
 
-// The last hexadecimal digit of a number.
-pub fn hex_digit(n: u8) -> u8
-    ensures { λ r. ⌜ r ≡ hexDigit (n % 16) ⌝ }
-{
-    let d = n % 16;
-    let small = d < 10;
-    if small { 48 + d } else { 55 + d }
-}
-
 // A byte in two hexadecimal digits.
 pub fn hex(b: u8) {
-    text(&[hex_digit(b / 16), hex_digit(b)]);
+    text(&[hex_figure(b as u32 / 16), hex_figure(b as u32)]);
 }
 
 // A number of 32 bits in eight.
@@ -66,7 +55,7 @@ fn identifier(f: Frame) {
         hex32(f.identifier);
     } else {
         let b = bytes32(Order::Big, f.identifier);
-        text(&[hex_digit(b[2])]);
+        text(&[hex_figure(b[2] as u32)]);
         hex(b[3]);
     }
 }

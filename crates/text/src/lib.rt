@@ -119,7 +119,7 @@ fn four(out: &mut [u8], at: usize, a: u8, b: u8, c: u8, d: u8) -> usize
 // ---- hexadecimal
 
 // The last figure of a number in hexadecimal.
-fn hex_figure(n: u32) -> u8
+pub fn hex_figure(n: u32) -> u8
     ensures { λ r. ⌜ r ≡ figure (n % 16) ⌝ }
 {
     FIGURES[(n % 16) as usize]

@@ -1,2 +1,0 @@
--- What is shown: hexadecimal digits.
-pub mod Digits
