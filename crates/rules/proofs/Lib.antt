@@ -1,5 +1,6 @@
 -- The laws of the rules and of the reading of histories, and the proofs of what they promise.
 pub mod Rules
+pub mod Speed
 pub mod Replies
 pub mod Looking
 pub mod Sessions

@@ -8,6 +8,7 @@ use Rattle.rules.specs.History.{storedAfter}
 use Rattle.rules.specs.Demand.{lookingBack}
 use Rattle.rules.specs.Promise.{stateOf, WorkedOut, Demand3, Sound, Promise}
 use Rattle.rules.proofs.Rules.{unheard, starts}
+use Rattle.rules.proofs.Speed.{speed-silent}
 use Rattle.rules.proofs.Replies.{outside-replies, session-replies, meets-woken}
 use Rattle.rules.proofs.History.{unit-serial, unit-rating, unit-stored, unit-session, unit-start, unit-reply}
 use Rattle.rules.proofs.Demand.{demand-back}
@@ -54,6 +55,7 @@ promise =
       starts = starts;
       silence = meets-woken;
       unheard = unheard;
+      speed = speed-silent;
       outside = outside-replies;
       session = session-replies;
       worked-out = worked-out;

@@ -4,9 +4,10 @@ use mathlib.Core.Path.{_≡_}
 use mathlib.Core.Bool.{Bool, true, false}
 use mathlib.Core.List.{List, _∷_}
 use Rattle.codec.specs.declared.frame.Frame.{Frame}
+use Rattle.maintenance.specs.declared.setting.Setting.the-variants.{Speed}
 use Rattle.maintenance.specs.declared.setting.Settings.{Settings}
 use Rattle.maintenance.specs.declared.message.Reply.{Reply}
-use Rattle.maintenance.specs.Settings.{accepted}
+use Rattle.maintenance.specs.Settings.{accepted, withValue}
 use Rattle.maintenance.specs.Messages.{quiet as noReply}
 use Rattle.rules.specs.declared.time.Stamp.{Stamp}
 use Rattle.rules.specs.declared.unit.Session.{Session}
@@ -40,6 +41,14 @@ UnheardChangesNothing = (at : Stamp) (storing : Bool) (f : Frame) (m : Monitor) 
 -- "and meets the event as locked": a frame is met as if the silence had come on its own
 abbrev pub MeetsAsWoken : Type 0
 MeetsAsWoken = (at : Stamp) (storing : Bool) (f : Frame) (m : Monitor) → framed at storing f m ≡ framed at storing f (woken at m)
+
+-- "The speed setting is stored and shown; it changes nothing else."
+abbrev pub withSpeed : ℕ → Monitor → Monitor
+withSpeed v m = record { serial = m .serial; rating = m .rating; stored = withValue (m .stored) Speed v; start = m .start; phase = m .phase }
+
+-- a monitor that stores another speed replies the same to every frame; only a session that it opens then shows that speed
+abbrev pub SpeedChangesNothing : Type 0
+SpeedChangesNothing = (v : ℕ) (at : Stamp) (storing : Bool) (f : Frame) (m : Monitor) → framed at storing f (withSpeed v m) .reply ≡ framed at storing f m .reply
 
 -- every start is fresh; a reset is one, and so is a silence of more than 2,000 ms in a session
 pub record Starts (m : Monitor) : Type 0 where
@@ -88,6 +97,7 @@ pub record Promise : Type 0 where
   pub starts : (m : Monitor) → Starts m
   pub silence : MeetsAsWoken
   pub unheard : UnheardChangesNothing
+  pub speed : SpeedChangesNothing
   pub outside : (m : Monitor) (pending : Pending) (at : Stamp) (storing : Bool) (f : Frame) → m .phase ≡ Outside pending → heard f m ≡ true → OutsideReplies m pending at storing f
   pub session : (m : Monitor) (s : Session) (at : Stamp) (storing : Bool) (f : Frame) → m .phase ≡ InSession s → at .0 ≤ s .heard .0 + 2000 → heard f m ≡ true → SessionReplies m s at storing f
   pub worked-out : (p : PowerOn) (h : List Event) → Run p h → WorkedOut p h

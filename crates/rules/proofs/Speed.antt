@@ -1,0 +1,63 @@
+-- The stored speed changes no reply: rule by rule. Assumes nothing.
+use Prim.Native.Nat.{ℕ}
+use mathlib.Core.Path.{_≡_, refl}
+use mathlib.Core.Bool.{Bool, true, false, cond, not, _&&_}
+use Rattle.codec.specs.declared.frame.Frame.{Frame}
+use Rattle.maintenance.specs.declared.setting.Settings.{Settings}
+use Rattle.maintenance.specs.declared.message.Message.{Message}
+use Rattle.maintenance.specs.declared.message.Message.the-variants.{Other, Unlock, Commit, Answer, SerialRequest, Read, Write}
+use Rattle.maintenance.specs.Settings.{legal}
+use Rattle.maintenance.specs.Messages.{message, isRight}
+use Rattle.rules.specs.declared.time.Stamp.{Stamp}
+use Rattle.rules.specs.declared.unit.Pending.{Pending}
+use Rattle.rules.specs.declared.unit.Pending.the-variants.{Nothing, Since}
+use Rattle.rules.specs.declared.unit.Session.{Session}
+use Rattle.rules.specs.declared.unit.Phase.{Phase}
+use Rattle.rules.specs.declared.unit.Phase.the-variants.{Outside, InSession}
+use Rattle.rules.specs.declared.unit.Monitor.{Monitor}
+use Rattle.rules.specs.declared.unit.Turn.{Turn}
+use Rattle.rules.specs.Times.{later, pastLimit}
+use Rattle.rules.specs.Rules.{inPhase, started, heard, outside, inside, frameMet, framed}
+use Rattle.rules.specs.Promise.{withSpeed, SpeedChangesNothing}
+
+either : (b : Bool) (t u t′ u′ : Turn) → t .reply ≡ t′ .reply → u .reply ≡ u′ .reply → cond b t u .reply ≡ cond b t′ u′ .reply
+either true t u t′ u′ p q = p
+either false t u t′ u′ p q = q
+
+outside-same : (x : Message) (pending : Pending) (v : ℕ) (at : Stamp) (f : Frame) (m : Monitor) → outside x pending at f (withSpeed v m) .reply ≡ outside x pending at f m .reply
+outside-same Unlock pending v at f m = either (pastLimit (m .start) 10000 at) _ _ _ _ refl refl
+outside-same Answer Nothing v at f m = refl
+outside-same Answer (Since since) v at f m = either (isRight (m .serial) f && not (pastLimit since 2000 at)) _ _ _ _ refl refl
+outside-same (SerialRequest mux) pending v at f m = refl
+outside-same (Read s) pending v at f m = refl
+outside-same (Write s w) pending v at f m = refl
+outside-same Commit pending v at f m = refl
+outside-same Other pending v at f m = refl
+
+inside-same : (x : Message) (draft : Settings) (v : ℕ) (at : Stamp) (storing : Bool) (m : Monitor) → inside x draft at storing (withSpeed v m) .reply ≡ inside x draft at storing m .reply
+inside-same (Read s) draft v at storing m = refl
+inside-same (Write s w) draft v at storing m = either (legal (m .rating) s w) _ _ _ _ refl refl
+inside-same Commit draft v at true m = refl
+inside-same Commit draft v at false m = refl
+inside-same Unlock draft v at storing m = refl
+inside-same Answer draft v at storing m = refl
+inside-same (SerialRequest mux) draft v at storing m = refl
+inside-same Other draft v at storing m = refl
+
+-- with the phase given: met, where it is heard
+met-outside : (pending : Pending) (v : ℕ) (at : Stamp) (storing : Bool) (f : Frame) (m : Monitor) → frameMet at storing f (withSpeed v (inPhase (Outside pending) m)) .reply ≡ frameMet at storing f (inPhase (Outside pending) m) .reply
+met-outside pending v at storing f m = either (heard f m) _ _ _ _ (outside-same (message f) pending v at f (inPhase (Outside pending) m)) refl
+
+-- a session that fell silent, or did not
+by-silence : (b : Bool) (s : Session) (v : ℕ) (at : Stamp) (storing : Bool) (f : Frame) (m : Monitor) →
+    let n : Monitor = inPhase (InSession s) m in
+    frameMet at storing f (cond b (started (later (s .heard) 2000) (withSpeed v n .stored) (withSpeed v n)) (withSpeed v n)) .reply ≡ frameMet at storing f (cond b (started (later (s .heard) 2000) (n .stored) n) n) .reply
+by-silence true s v at storing f m = met-outside Nothing v at storing f (started (later (s .heard) 2000) (m .stored) m)
+by-silence false s v at storing f m = either (heard f m) _ _ _ _ (inside-same (message f) (s .draft) v at storing (inPhase (InSession s) m)) refl
+
+by-phase : (p : Phase) (v : ℕ) (at : Stamp) (storing : Bool) (f : Frame) (m : Monitor) → framed at storing f (withSpeed v (inPhase p m)) .reply ≡ framed at storing f (inPhase p m) .reply
+by-phase (Outside pending) v at storing f m = met-outside pending v at storing f m
+by-phase (InSession s) v at storing f m = by-silence (pastLimit (s .heard) 2000 at) s v at storing f m
+
+pub speed-silent : SpeedChangesNothing
+speed-silent v at storing f m = by-phase (m .phase) v at storing f m
