@@ -5,9 +5,9 @@ use refusal::Refusal;
 
 // A frame as it came: any number may stand in any field. Bytes past the length are no part of the frame.
 pub struct Frame {
+    pub length: u8,
     pub extended: bool,
     pub identifier: u32,
-    pub length: u8,
     pub bytes: [u8; 8],
 }
 
