@@ -62,7 +62,7 @@ pub fn bytes(out: &mut [u8], at: usize, text: &[u8]) -> usize
     place
 }
 
-// ---- some bytes at once: one test of the place for all of them where they fit
+// ---- three bytes at once: one test of the place for all of them where they fit
 
 // Whether so many bytes fit at a place of a buffer of that length.
 fn has_room(length: usize, at: usize, n: usize) -> bool
@@ -72,19 +72,6 @@ fn has_room(length: usize, at: usize, n: usize) -> bool
         return false;
     }
     at <= length - n
-}
-
-fn two(out: &mut [u8], at: usize, a: u8, b: u8) -> usize
-    ensures { λ r. ⌜ Put (now (out .entry)) at (a ∷ b ∷ []) r (now (out .exit)) ⌝ }
-{
-    let room = has_room(out.len(), at, 2);
-    if room {
-        out[at] = a;
-        out[at + 1] = b;
-        return at + 2;
-    }
-    let next = byte(out, at, a);
-    byte(out, next, b)
 }
 
 fn three(out: &mut [u8], at: usize, a: u8, b: u8, c: u8) -> usize
@@ -98,22 +85,15 @@ fn three(out: &mut [u8], at: usize, a: u8, b: u8, c: u8) -> usize
         return at + 3;
     }
     let next = byte(out, at, a);
-    two(out, next, b, c)
+    let last = byte(out, next, b);
+    byte(out, last, c)
 }
 
 fn four(out: &mut [u8], at: usize, a: u8, b: u8, c: u8, d: u8) -> usize
     ensures { λ r. ⌜ Put (now (out .entry)) at (a ∷ b ∷ c ∷ d ∷ []) r (now (out .exit)) ⌝ }
 {
-    let room = has_room(out.len(), at, 4);
-    if room {
-        out[at] = a;
-        out[at + 1] = b;
-        out[at + 2] = c;
-        out[at + 3] = d;
-        return at + 4;
-    }
-    let next = two(out, at, a, b);
-    two(out, next, c, d)
+    let next = byte(out, at, a);
+    three(out, next, b, c, d)
 }
 
 // ---- hexadecimal
@@ -187,7 +167,8 @@ fn few(out: &mut [u8], at: usize, n: u32) -> usize
         return byte(out, at, figure_of(n));
     }
     if n < 100 {
-        return two(out, at, figure_of(n / 10), figure_of(n));
+        let next = byte(out, at, figure_of(n / 10));
+        return byte(out, next, figure_of(n));
     }
     if n < 1000 {
         return three(

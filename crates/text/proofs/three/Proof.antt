@@ -32,10 +32,10 @@ returns : tie.Need-returns
 returns c = row (c .before .before .before .args .out .now) _ (c .before .before .before .args .at) (c .before .before .before .args .a ∷ c .before .before .before .args .b ∷ c .before .before .before .args .c ∷ []) (and-one (c .before .before .before .args .out .now) _ (c .before .before .before .args .at) (c .before .before .before .args .a ∷ c .before .before .before .args .b ∷ []) (c .before .before .before .args .c) (and-one (c .before .before .before .args .out .now) _ (c .before .before .before .args .at) (c .before .before .before .args .a ∷ []) (c .before .before .before .args .b) refl)) (sym (c .before .has-room .ensures) ∙ c .if1 .taken) (c .before .before .before .good .0 .0)
 
 returns-2 : tie.Need-returns-2
-returns-2 c = then (c .before .before .before .before .before .before .before .before .before .before .before .good .0 .0) (c .before .before .before .before .before .before .byte .ensures) (c .before .before .two .ensures)
+returns-2 c = then (c .before .before .before .before .before .before .before .before .before .before .before .before .before .before .before .good .0 .0) (then (c .before .before .before .before .before .before .before .before .before .before .before .before .before .before .before .good .0 .0) (c .before .before .before .before .before .before .before .before .before .before .byte .ensures) (c .before .before .before .before .before .before .byte2 .ensures)) (c .before .before .byte3 .ensures)
 
 pub three-spec : {M : Type 1} → statement M
 three-spec =
     tie.close
     (tie.spec
-    (λ c κs. tt) slice-write-out add-out slice-write-out-2 add-out-2 slice-write-out-3 add-result (λ c. search needs) returns (λ c κs. tt) (λ c κs. tt) (λ c. search needs) returns-2)
+    (λ c κs. tt) slice-write-out add-out slice-write-out-2 add-out-2 slice-write-out-3 add-result (λ c. search needs) returns (λ c κs. tt) (λ c κs. tt) (λ c κs. tt) (λ c. search needs) returns-2)
