@@ -2,7 +2,8 @@
 use listing::output::next_part;
 use listing::output::whole;
 
-// Writes the output of a log, part by part. 18 parts are always all of it.
+// Writes the output of a log, part by part. 18 parts are always all of it. Where one cannot be written none follows, so that what is written is the
+// beginning of the output and never has a hole.
 fn write_parts(s: &[u8], text: &mut [u8]) {
     let mut rest = whole(s);
     let mut i: u32 = 0;
@@ -11,7 +12,10 @@ fn write_parts(s: &[u8], text: &mut [u8]) {
             return;
         }
         let part = next_part(s, rest, text);
-        show::first(text, part.end);
+        let written = show::first(text, part.end);
+        if !written {
+            return;
+        }
         rest = part.rest;
         i += 1;
     }

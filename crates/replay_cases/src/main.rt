@@ -9,7 +9,9 @@ use words::word::word32;
 fn answer(log: &[u8], text: &mut [u8]) {
     let listed = listing(log, text);
     match listed {
-        Written::Text(n) => show::first(text, n),
+        Written::Text(n) => {
+            show::first(text, n);
+        }
         Written::Refused(why) => {
             let mut line = [0; 16];
             let n = refused_line(&mut line, why);

@@ -9,13 +9,12 @@ pub fn text(s: &[u8]) {
     io::write_all(1, s);
 }
 
-// The first bytes of a text, and all of it if there are no more.
-pub fn first(s: &[u8], n: usize) {
+// The first bytes of a text, and all of it if there are no more. Answers whether they were written.
+pub fn first(s: &[u8], n: usize) -> bool {
     if n <= s.len() {
-        text(&s[..n]);
-    } else {
-        text(s);
+        return io::write_all(1, &s[..n]);
     }
+    io::write_all(1, s)
 }
 
 // A byte in two hexadecimal digits.

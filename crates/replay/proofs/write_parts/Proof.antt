@@ -23,21 +23,24 @@ loop-holds c = (c .whole .ensures, refl)
 same-length : tie.Need-same-length Inv-loop μ-loop
 same-length c = c .before .before .loop .inv .1
 
+same-length-2 : tie.Need-same-length-2 Inv-loop μ-loop
+same-length-2 c = kept-length (c .before .before .before .before .before .next-part .ensures .text) ∙ c .before .before .before .before .before .before .before .before .before .loop .inv .1
+
 loop-less : tie.Need-loop-less Inv-loop μ-loop
-loop-less c = let t = c .before .before .before .before .before .before .before .before .loop-test .taken in omega (arith, t)
+loop-less c = let t = c .before .before .before .before .before .before .before .before .before .loop-test .taken in omega (arith, t)
 
 loop-again : tie.Need-loop-again Inv-loop μ-loop
 unfolding restIn
 loop-again c = (
-  c .before .before .before .before .before .next-part .ensures .left ∙ ap (restAfter (c .before .before .before .before .before .before .before .before .before .before .before .before .before .args .s .now)) (c .before .before .before .before .before .before .before .before .before .loop .inv .0) ∙ ap (λ (k : ℕ). restIn k (c .before .before .before .before .before .before .before .before .before .before .before .before .before .args .s .now)) (sym (add-one (c .before .before .before .before .before .before .before .before .before .loop .i))),
-  kept-length (c .before .before .before .before .before .next-part .ensures .text) ∙ c .before .before .before .before .before .before .before .before .before .loop .inv .1,
+  c .before .before .before .before .before .before .next-part .ensures .left ∙ ap (restAfter (c .before .before .before .before .before .before .before .before .before .before .before .before .before .before .args .s .now)) (c .before .before .before .before .before .before .before .before .before .before .loop .inv .0) ∙ ap (λ (k : ℕ). restIn k (c .before .before .before .before .before .before .before .before .before .before .before .before .before .before .args .s .now)) (sym (add-one (c .before .before .before .before .before .before .before .before .before .before .loop .i))),
+  kept-length (c .before .before .before .before .before .before .next-part .ensures .text) ∙ c .before .before .before .before .before .before .before .before .before .before .loop .inv .1,
 )
 
-same-length-2 : tie.Need-same-length-2 Inv-loop μ-loop
-same-length-2 c = c .before .loop .inv .1
+same-length-3 : tie.Need-same-length-3 Inv-loop μ-loop
+same-length-3 c = c .before .loop .inv .1
 
 pub write-parts-spec : {M : Type 1} → statement M
 write-parts-spec =
     tie.close
     (tie.spec
-    Inv-loop μ-loop (λ c κs. tt) loop-holds same-length (λ c. tt) (λ c κs. tt) (λ c κs. tt) (λ c. search needs) loop-less loop-again same-length-2 (λ c. tt))
+    Inv-loop μ-loop (λ c κs. tt) loop-holds same-length (λ c. tt) (λ c κs. tt) (λ c κs. tt) same-length-2 (λ c. tt) (λ c. search needs) loop-less loop-again same-length-3 (λ c. tt))

@@ -5,9 +5,11 @@ use lib.Seq.{length-take-le}
 use Rattle.show.proofs.first.Statement.{statement}
 use Rattle.show.proofs.first.Tie as tie
 
-slice-aggregate-text : tie.Need-slice-aggregate-text
-slice-aggregate-text c = sym (length-take-le (c .before .before .before .args .n) (c .before .before .before .args .s .now) (c .before .if1 .taken))
+slice-aggregate-write-all : tie.Need-slice-aggregate-write-all
+slice-aggregate-write-all c = sym (length-take-le (c .before .before .before .args .n) (c .before .before .before .args .s .now) (c .before .if1 .taken))
 
 pub first-spec : {M : Type 1} → statement M
 first-spec =
-    tie.close (tie.spec slice-aggregate-text (λ c κs. tt) (λ c κs. tt) (λ c. search needs) (λ c. search needs))
+    tie.close
+    (tie.spec
+    slice-aggregate-write-all (λ c κs. search needs) (λ c. search needs) (λ c κs. search needs) (λ c. search needs))
