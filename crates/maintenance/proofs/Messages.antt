@@ -1,6 +1,6 @@
 -- Messages: each kind is read as such, and an answer is right exactly when its bytes are. Assumes nothing.
 use Prim.Native.Nat.{ℕ, _≤_}
-use mathlib.Core.Path.{_≡_, refl}
+use mathlib.Core.Path.{_≡_, refl, sym, ap, _∙_}
 use mathlib.Core.Bool.{Bool, true, false, cond, _&&_, _||_}
 use mathlib.Core.List.{List, [], _∷_}
 use mathlib.Core.Logic.{_⊎_, inl, inr}
@@ -8,7 +8,7 @@ use lib.Dec.{eqb, leb}
 use lib.ListN.{getD}
 use borrow.Author.Tests.{eqb-true, eq-eqb, ne-eqb, le-leb, leb-true}
 use native.Mathlib.Omega.{arith}
-use Rattle.words.proofs.Tests.{and-left, and-right, and-false}
+use Rattle.words.proofs.Tests.{decided, and-left, and-right, and-false}
 use Rattle.codec.specs.declared.frame.Frame.{Frame}
 use Rattle.codec.specs.Table.{part, numberAt}
 use Rattle.maintenance.specs.declared.setting.Setting.{Setting}
@@ -42,7 +42,7 @@ code-apart FaultLevel = refl
 
 -- ---- each kind
 
-says-commit : (f : Frame) → isCommit f ≡ true → message f ≡ Commit
+pub says-commit : (f : Frame) → isCommit f ≡ true → message f ≡ Commit
 unfolding message
 says-commit f h =
     let a = and-left (eqb (f .length) 3 && eqb (byte f 0) 0x14 && eqb (byte f 1) 0x9A) _ h in
@@ -50,7 +50,7 @@ says-commit f h =
     let other : isUnlock f ≡ false = rw (second, and-false (eqb (f .length) 3 && eqb (byte f 0) 0x14)) refl in
     rw (other, h) refl
 
-says-answer : (f : Frame) → isAnswer f ≡ true → message f ≡ Answer
+pub says-answer : (f : Frame) → isAnswer f ≡ true → message f ≡ Answer
 unfolding message
 says-answer f h =
     let length = eqb-true (f .length) 8 (and-left (eqb (f .length) 8) _ h) in
@@ -71,7 +71,7 @@ says-write : (f : Frame) (s : Setting) → f .length ≡ 5 → byte f 0 ≡ code
 unfolding message
 says-write f s l b = rw (l, b, code-named s) refl
 
-says-unlock : (f : Frame) → isUnlock f ≡ true → message f ≡ Unlock
+pub says-unlock : (f : Frame) → isUnlock f ≡ true → message f ≡ Unlock
 unfolding message
 says-unlock f h = rw h refl
 
@@ -85,6 +85,40 @@ says f =
       read = says-read f;
       write = says-write f;
     }
+
+-- ---- whatever order the kinds are asked for in
+
+serial-bounds : (f : Frame) → asksSerial f ≡ true → (0x08 ≤ byte f 0) × (byte f 0 ≤ 0x0B)
+serial-bounds f t =
+    let short = eqb (f .length) 1 || eqb (f .length) 3 in (
+      leb-true 0x08 (byte f 0) (and-right short (leb 0x08 (byte f 0)) (and-left (short && leb 0x08 (byte f 0)) (leb (byte f 0) 0x0B) t)),
+      leb-true (byte f 0) 0x0B (and-right (short && leb 0x08 (byte f 0)) (leb (byte f 0) 0x0B) t),
+    )
+
+pub serial-said : (f : Frame) → asksSerial f ≡ true → message f ≡ SerialRequest (byte f 0)
+serial-said f t =
+    let bounds = serial-bounds f t in
+    let short = and-left (eqb (f .length) 1 || eqb (f .length) 3) _ (and-left ((eqb (f .length) 1 || eqb (f .length) 3) && leb 0x08 (byte f 0)) _ t) in
+    decided (eqb (f .length) 1)
+    (λ one. says-serial f (inl (eqb-true (f .length) 1 one)) (bounds .0) (bounds .1))
+    (λ more. says-serial f (inr (eqb-true (f .length) 3 (sym (ap (λ (b : Bool). b || eqb (f .length) 3) more) ∙ short))) (bounds .0) (bounds .1))
+
+pub read-said : (f : Frame) → asksSerial f ≡ false → eqb (f .length) 1 ≡ true → message f ≡ asRead (settingOf (byte f 0))
+unfolding message
+read-said f s one =
+    let l = eqb-true (f .length) 1 one in
+    let unlock : isUnlock f ≡ false = rw l refl in
+    let commit : isCommit f ≡ false = rw l refl in
+    let answer : isAnswer f ≡ false = rw l refl in
+    rw (unlock, commit, answer, s, one) refl
+
+pub write-said : (f : Frame) → eqb (f .length) 5 ≡ true → message f ≡ asWrite (settingOf (byte f 0)) (numberAt (f .bytes) 1 4)
+unfolding message
+write-said f five = rw (eqb-true (f .length) 5 five) refl
+
+pub other-said : (f : Frame) → isUnlock f ≡ false → isCommit f ≡ false → isAnswer f ≡ false → asksSerial f ≡ false → eqb (f .length) 1 ≡ false → eqb (f .length) 5 ≡ false → message f ≡ Other
+unfolding message
+other-said f unlock commit answer serial one five = rw (unlock, commit, answer, serial, one, five) refl
 
 -- ---- a serial request is one of 08 to 0B
 
@@ -108,13 +142,6 @@ write-listed (Known s) v = tt
 either : (t : Bool) (x y : Message) → (t ≡ true → Listed x) → Listed y → Listed (cond t x y)
 either true x y p q = p refl
 either false x y p q = q
-
-serial-bounds : (f : Frame) → asksSerial f ≡ true → (0x08 ≤ byte f 0) × (byte f 0 ≤ 0x0B)
-serial-bounds f t =
-    let short = eqb (f .length) 1 || eqb (f .length) 3 in (
-      leb-true 0x08 (byte f 0) (and-right short (leb 0x08 (byte f 0)) (and-left (short && leb 0x08 (byte f 0)) (leb (byte f 0) 0x0B) t)),
-      leb-true (byte f 0) 0x0B (and-right (short && leb 0x08 (byte f 0)) (leb (byte f 0) 0x0B) t),
-    )
 
 pub serial-listed : (f : Frame) → Listed (message f)
 unfolding message

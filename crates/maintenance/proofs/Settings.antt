@@ -1,7 +1,7 @@
 -- Settings: what is accepted taken apart and put together, and values with the top bit set. Assumes nothing.
 use Prim.Native.Nat.{ℕ, _<_, _≤_}
 use mathlib.Core.Path.{_≡_, refl, sym, ap, _∙_}
-use mathlib.Core.Bool.{Bool, true, false, cond, _&&_}
+use mathlib.Core.Bool.{Bool, true, false, cond, _&&_, _||_}
 use lib.Dec.{eqb, leb, ltb, lit<}
 use borrow.Author.Tests.{leb-true, ltb-true, lt-leb, le-ltb, ne-eqb}
 use native.Mathlib.Omega.{arith}
@@ -10,9 +10,47 @@ use Rattle.maintenance.specs.declared.setting.Setting.the-variants.{Rece
 use Rattle.maintenance.specs.declared.setting.Named.{Named}
 use Rattle.maintenance.specs.declared.setting.Named.the-variants.{Unknown, Known}
 use Rattle.maintenance.specs.declared.setting.Settings.{Settings}
-use Rattle.maintenance.specs.Settings.{code, settingOf, legal, accepted, withValue, speedNumber}
+use Rattle.maintenance.specs.Settings.{code, settingOf, orderOf, legal, accepted, valueOf, withValue, speedNumber}
 use Rattle.maintenance.specs.Promise.{EqualAccepted, NegativeRefused}
 use Rattle.words.proofs.Tests.{by-test, and-left, and-right, and-false}
+
+-- ---- chosen by the place in the order
+
+pub legal-chosen : (rating : ℕ) (s : Setting) (v : ℕ) → cond (ltb (orderOf s) 2) (leb v 0x1FFFFFFF) (cond (eqb (orderOf s) 2) (eqb v 0x00CA0250 || eqb v 0x00CA0500) (cond (eqb (orderOf s) 3) (leb 1 v && ltb v rating) (leb 1 v && leb v 2147483647))) ≡ legal rating s v
+legal-chosen rating ReceiveId v = refl
+legal-chosen rating TransmitId v = refl
+legal-chosen rating Speed v = refl
+legal-chosen rating Voltage v = refl
+legal-chosen rating WarningLevel v = refl
+legal-chosen rating FaultLevel v = refl
+
+pub value-chosen : (k : Settings) (s : Setting) → cond (eqb (orderOf s) 0) (k .receive) (cond (eqb (orderOf s) 1) (k .transmit) (cond (eqb (orderOf s) 2) (k .speed) (cond (eqb (orderOf s) 3) (k .voltage) (cond (eqb (orderOf s) 4) (k .warning) (k .fault))))) ≡ valueOf k s
+value-chosen k ReceiveId = refl
+value-chosen k TransmitId = refl
+value-chosen k Speed = refl
+value-chosen k Voltage = refl
+value-chosen k WarningLevel = refl
+value-chosen k FaultLevel = refl
+
+-- a value where the place in the order is the setting's, and what was there everywhere else
+abbrev pub choosing : Settings → ℕ → ℕ → Settings
+choosing k i v =
+    record {
+      receive = cond (eqb i 0) v (k .receive);
+      transmit = cond (eqb i 1) v (k .transmit);
+      speed = cond (eqb i 2) v (k .speed);
+      voltage = cond (eqb i 3) v (k .voltage);
+      warning = cond (eqb i 4) v (k .warning);
+      fault = cond (eqb i 5) v (k .fault);
+    }
+
+pub all-chosen : (k : Settings) (s : Setting) (v : ℕ) → choosing k (orderOf s) v ≡ withValue k s v
+all-chosen k ReceiveId v = refl
+all-chosen k TransmitId v = refl
+all-chosen k Speed v = refl
+all-chosen k Voltage v = refl
+all-chosen k WarningLevel v = refl
+all-chosen k FaultLevel v = refl
 
 -- ---- negative values
 

@@ -29,6 +29,15 @@ settingIn (s ∷ ss) c = cond (eqb c (code s)) (Known s) (settingIn ss c)
 abbrev pub settingOf : ℕ → Named
 settingOf c = settingIn inCodeOrder c
 
+-- the place of a setting in that order, the first is 0
+abbrev pub orderOf : Setting → ℕ
+orderOf ReceiveId = 0
+orderOf TransmitId = 1
+orderOf Speed = 2
+orderOf Voltage = 3
+orderOf WarningLevel = 4
+orderOf FaultLevel = 5
+
 -- "0 to 0x1FFFFFFF"; "the two values"; "at least 1 and below the rating"; "1 to 2,147,483,647"
 abbrev pub legal : ℕ → Setting → ℕ → Bool
 legal rating ReceiveId v = leb v 0x1FFFFFFF

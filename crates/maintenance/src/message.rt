@@ -97,9 +97,25 @@ fn as_write(named: Named, value: u32) -> Message
     }
 }
 
+// Writes and reads are asked for first, since most frames are one or the other.
 pub fn message_of(f: Frame) -> Message
     ensures { λ r. ⌜ r ≡ message f ⌝ }
 {
+    let five = f.length == 5;
+    if five {
+        return as_write(
+            setting_of(f.bytes[0]),
+            word32(Order::Big, f.bytes[1], f.bytes[2], f.bytes[3], f.bytes[4]),
+        );
+    }
+    let serial = asks_serial(f);
+    if serial {
+        return Message::SerialRequest(f.bytes[0]);
+    }
+    let one = f.length == 1;
+    if one {
+        return as_read(setting_of(f.bytes[0]));
+    }
     let unlock = is_unlock(f);
     if unlock {
         return Message::Unlock;
@@ -111,21 +127,6 @@ pub fn message_of(f: Frame) -> Message
     let answer = is_answer(f);
     if answer {
         return Message::Answer;
-    }
-    let serial = asks_serial(f);
-    if serial {
-        return Message::SerialRequest(f.bytes[0]);
-    }
-    let one = f.length == 1;
-    if one {
-        return as_read(setting_of(f.bytes[0]));
-    }
-    let five = f.length == 5;
-    if five {
-        return as_write(
-            setting_of(f.bytes[0]),
-            word32(Order::Big, f.bytes[1], f.bytes[2], f.bytes[3], f.bytes[4]),
-        );
     }
     Message::Other
 }

@@ -1,6 +1,7 @@
 // The six settings of document 002's table 4.
 ghost use mathlib.Core.Path.{_≡_};
-ghost use Rattle.maintenance.specs.Settings.{code, settingOf, legal, accepted, valueOf, withValue, speedNumber};
+ghost use mathlib.Core.Bool.{cond};
+ghost use Rattle.maintenance.specs.Settings.{code, settingOf, orderOf, legal, accepted, valueOf, withValue, speedNumber};
 
 pub enum Setting {
     ReceiveId,
@@ -54,18 +55,48 @@ pub(crate) fn setting_of(code: u8) -> Named
     }
 }
 
+// ---- by the setting, without a branch: which setting a message is about cannot be foreseen, and a branch on it is taken wrongly more often than not
+
+// Its place in the order of the codes, the first is 0.
+fn order_of(setting: Setting) -> u8
+    ensures { λ r. ⌜ r ≡ orderOf setting ⌝ }
+{
+    match setting {
+        Setting::ReceiveId => 0,
+        Setting::TransmitId => 1,
+        Setting::Speed => 2,
+        Setting::Voltage => 3,
+        Setting::WarningLevel => 4,
+        Setting::FaultLevel => 5,
+    }
+}
+
+// One of two values.
+fn either(test: bool, a: u32, b: u32) -> u32
+    ensures { λ r. ⌜ r ≡ cond test a b ⌝ }
+{
+    if test { a } else { b }
+}
+
+// One of two tests.
+fn whether(test: bool, a: bool, b: bool) -> bool
+    ensures { λ r. ⌜ r ≡ cond test a b ⌝ }
+{
+    if test { a } else { b }
+}
+
 // Whether a write of the value is legal, for a monitor of that rating.
 pub fn is_legal(rating: u16, setting: Setting, value: u32) -> bool
     ensures { λ r. ⌜ r ≡ legal rating setting value ⌝ }
 {
-    match setting {
-        Setting::ReceiveId => value <= 0x1FFFFFFF,
-        Setting::TransmitId => value <= 0x1FFFFFFF,
-        Setting::Speed => (value == 0x00CA0250) | (value == 0x00CA0500),
-        Setting::Voltage => (value >= 1) & (value < rating as u32),
-        Setting::WarningLevel => (value >= 1) & (value <= 2147483647),
-        Setting::FaultLevel => (value >= 1) & (value <= 2147483647),
-    }
+    let i = order_of(setting);
+    let identifier = value <= 0x1FFFFFFF;
+    let speed = (value == 0x00CA0250) | (value == 0x00CA0500);
+    let voltage = (value >= 1) & (value < rating as u32);
+    let level = (value >= 1) & (value <= 2147483647);
+    let above = whether(i == 3, voltage, level);
+    let other = whether(i == 2, speed, above);
+    whether(i < 2, identifier, other)
 }
 
 // Whether power-on accepts the rating with these settings.
@@ -84,29 +115,26 @@ pub fn is_accepted(rating: u16, settings: Settings) -> bool
 pub fn value_of(settings: Settings, setting: Setting) -> u32
     ensures { λ r. ⌜ r ≡ valueOf settings setting ⌝ }
 {
-    match setting {
-        Setting::ReceiveId => settings.receive,
-        Setting::TransmitId => settings.transmit,
-        Setting::Speed => settings.speed,
-        Setting::Voltage => settings.voltage,
-        Setting::WarningLevel => settings.warning,
-        Setting::FaultLevel => settings.fault,
-    }
+    let i = order_of(setting);
+    let level = either(i == 4, settings.warning, settings.fault);
+    let above = either(i == 3, settings.voltage, level);
+    let other = either(i == 2, settings.speed, above);
+    let more = either(i == 1, settings.transmit, other);
+    either(i == 0, settings.receive, more)
 }
 
 pub fn with_value(settings: Settings, setting: Setting, value: u32) -> Settings
     ensures { λ r. ⌜ r ≡ withValue settings setting value ⌝ }
 {
-    let mut s = settings;
-    match setting {
-        Setting::ReceiveId => s.receive = value,
-        Setting::TransmitId => s.transmit = value,
-        Setting::Speed => s.speed = value,
-        Setting::Voltage => s.voltage = value,
-        Setting::WarningLevel => s.warning = value,
-        Setting::FaultLevel => s.fault = value,
+    let i = order_of(setting);
+    Settings {
+        receive: either(i == 0, value, settings.receive),
+        transmit: either(i == 1, value, settings.transmit),
+        speed: either(i == 2, value, settings.speed),
+        voltage: either(i == 3, value, settings.voltage),
+        warning: either(i == 4, value, settings.warning),
+        fault: either(i == 5, value, settings.fault),
     }
-    s
 }
 
 // The speed as it is shown: its number in texts.

@@ -57,6 +57,22 @@ four-more n a b =
     (after-them (n / 10 / 10) (decimal (n / 10 / 10 / 10 / 10)) _ (omega (arith, a)) (omega (arith, h))
     (one (n / 10 / 10 / 10) (omega (arith, a)) (omega (arith, h))))))
 
+pub eight-more : (n : ℕ) → 100000000 ≤ n → n < 2 ^ 32 → (decimal (n / 100000000) ++ lastFour (n / 10000)) ++ lastFour n ≡ decimal n
+eight-more n a b =
+    let h : n < 4294967296 = b in
+    ap (λ (t : List ℕ). t ++ lastFour n)
+    (ap (λ (m : ℕ). decimal m ++ lastFour (n / 10000)) (let e : n / 100000000 ≡ n / 10000 / 10000 = omega arith in e)
+    ∙ four-more (n / 10000) (omega (arith, a)) (let g : n / 10000 < 4294967296 = omega (arith, h) in g))
+    ∙ four-more n (omega (arith, a)) b
+
+-- the top is what is before the last four figures, or before the last eight
+pub top-below : (n : ℕ) → n < 2 ^ 32 → cond (ltb n 10000) n (cond (ltb n 100000000) (n / 10000) (n / 100000000)) < 10000
+top-below n b =
+    let h : n < 4294967296 = b in
+    decided (ltb n 10000)
+    (λ t. rw t (ltb-true n 10000 t))
+    (λ t. decided (ltb n 100000000) (λ u. rw (t, u) (let g = ltb-true n 100000000 u in omega (arith, g))) (λ u. rw (t, u) (omega (arith, h))))
+
 pub same-row : {a a′ : ℕ} {t t′ : List ℕ} → a ≡ a′ → t ≡ t′ → a ∷ t ≡ a′ ∷ t′
 same-row {a} {a′} {t} {t′} p q = ap (λ (x : ℕ). x ∷ t) p ∙ ap (λ (x : List ℕ). a′ ∷ x) q
 
@@ -64,33 +80,32 @@ same-row {a} {a′} {t} {t′} p q = ap (λ (x : ℕ). x ∷ t) p ∙ ap (λ (x 
 pub by-hundreds : (n : ℕ) → (48 + n / 100 / 10 % 10) ∷ (48 + n / 100 % 10) ∷ (48 + n % 100 / 10 % 10) ∷ (48 + n % 100 % 10) ∷ [] ≡ lastFour n
 by-hundreds n = same-row (omega arith) (same-row (omega arith) (same-row (omega arith) (same-row (omega arith) refl)))
 
+-- each figure by its place
+pub by-places : (n : ℕ) → figure (n / 0x10000000 % 16) ∷ figure (n / 0x1000000 % 16) ∷ figure (n / 0x100000 % 16) ∷ figure (n / 0x10000 % 16) ∷ figure (n / 0x1000 % 16) ∷ figure (n / 0x100 % 16) ∷ figure (n / 0x10 % 16) ∷ figure (n % 16) ∷ [] ≡ hexadecimal 8 n
+unfolding hexadecimal
+by-places n =
+    same-row (ap (λ (k : ℕ). figure (k % 16)) (let e : n / 0x10000000 ≡ n / 16 / 16 / 16 / 16 / 16 / 16 / 16 = omega arith in e))
+    (same-row (ap (λ (k : ℕ). figure (k % 16)) (let e : n / 0x1000000 ≡ n / 16 / 16 / 16 / 16 / 16 / 16 = omega arith in e))
+    (same-row (ap (λ (k : ℕ). figure (k % 16)) (let e : n / 0x100000 ≡ n / 16 / 16 / 16 / 16 / 16 = omega arith in e))
+    (same-row (ap (λ (k : ℕ). figure (k % 16)) (let e : n / 0x10000 ≡ n / 16 / 16 / 16 / 16 = omega arith in e))
+    (same-row (ap (λ (k : ℕ). figure (k % 16)) (let e : n / 0x1000 ≡ n / 16 / 16 / 16 = omega arith in e))
+    (same-row (ap (λ (k : ℕ). figure (k % 16)) (let e : n / 0x100 ≡ n / 16 / 16 = omega arith in e)) refl)))))
+
 pub eight-figures : (n : ℕ) → hexadecimal 4 (n / 16 / 16 / 16 / 16) ++ hexadecimal 4 n ≡ hexadecimal 8 n
 unfolding hexadecimal
 eight-figures n = refl
 
--- ---- a table of figures
+-- ---- a number that is none of the first ones
 
-less-than : (i n : ℕ) → i < suc n → (i ≡ n → ⊥) → i < n
-less-than i n h k = decided (ltb i n) (λ t. ltb-true i n t) (λ t. absurd (k (let g = ltb-false i n t in omega (arith, g, h))))
+abbrev pub NoneBelow : ℕ → ℕ → Type 0
+NoneBelow d zero = Unit
+NoneBelow d (suc n) = NoneBelow d n × (d ≡ n → ⊥)
 
--- whether a test holds of every number below one
-abbrev pub every : (ℕ → Bool) → ℕ → Bool
-every p zero = true
-every p (suc n) = p n && every p n
-
-every-below : (p : ℕ → Bool) (n i : ℕ) → every p n ≡ true → i < n → p i ≡ true
-every-below p zero i q h = absurd (omega (arith, h))
-every-below p (suc n) i q h =
-    decided (eqb i n)
-    (λ t. ap p (eqb-true i n t) ∙ and-left (p n) (every p n) q)
-    (λ t. every-below p n i (and-right (p n) (every p n) q) (less-than i n h (eqb-false i n t)))
-
--- the 16 figures, in their order
-abbrev pub figures : List ℕ
-figures = 48 ∷ 49 ∷ 50 ∷ 51 ∷ 52 ∷ 53 ∷ 54 ∷ 55 ∷ 56 ∷ 57 ∷ 65 ∷ 66 ∷ 67 ∷ 68 ∷ 69 ∷ 70 ∷ []
-
-pub the-figure : (i : ℕ) → i < 16 → getD figures i 0 ≡ figure i
-the-figure i h = eqb-true (getD figures i 0) (figure i) (every-below (λ (k : ℕ). eqb (getD figures k 0) (figure k)) 16 i refl h)
+pub none-below : (d n : ℕ) → NoneBelow d n → n ≤ d
+none-below d zero k = omega arith
+none-below d (suc n) k =
+    let above = none-below d n (k .0) in
+    decided (ltb n d) (λ t. let g = ltb-true n d t in omega (arith, g)) (λ t. absurd (k .1 (let g = ltb-false n d t in omega (arith, g, above))))
 
 -- ---- how many figures
 

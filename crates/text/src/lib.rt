@@ -1,33 +1,14 @@
 // Figures and bytes into a lent buffer, from a place on. What does not fit is not written; the place is counted on all the same, so that a text can be
 // measured by putting it into a buffer that is too short. Nothing is written into a buffer any other way.
 ghost use mathlib.Core.Path.{_≡_};
+ghost use mathlib.Core.Bool.{cond};
 ghost use mathlib.Core.List.{[], _∷_};
 ghost use Prim.Native.Nat.{_+_, _/_, _%_, _<_};
-ghost use lib.Dec.{leb};
+ghost use lib.Dec.{leb, ltb};
 ghost use Rattle.text.specs.Figures.{figure, hexadecimal, decimal as decimalFigures};
 ghost use Rattle.text.specs.Put.{Put, place};
 
 pub mod written;
-
-// The figures 0 to 9 and A to F.
-const FIGURES: [u8; 16] = [
-    48,
-    49,
-    50,
-    51,
-    52,
-    53,
-    54,
-    55,
-    56,
-    57,
-    65,
-    66,
-    67,
-    68,
-    69,
-    70,
-];
 
 // The place after one.
 fn after(at: usize) -> usize
@@ -98,11 +79,28 @@ fn four(out: &mut [u8], at: usize, a: u8, b: u8, c: u8, d: u8) -> usize
 
 // ---- hexadecimal
 
-// The last figure of a number in hexadecimal.
+// The last figure of a number in hexadecimal, looked up. A constant array would be copied at each look.
 pub fn hex_figure(n: u32) -> u8
     ensures { λ r. ⌜ r ≡ figure (n % 16) ⌝ }
 {
-    FIGURES[(n % 16) as usize]
+    match (n % 16) as u8 {
+        0 => 48,
+        1 => 49,
+        2 => 50,
+        3 => 51,
+        4 => 52,
+        5 => 53,
+        6 => 54,
+        7 => 55,
+        8 => 56,
+        9 => 57,
+        10 => 65,
+        11 => 66,
+        12 => 67,
+        13 => 68,
+        14 => 69,
+        _ => 70,
+    }
 }
 
 // A byte in two figures after one space.
@@ -131,6 +129,33 @@ pub fn hex8(out: &mut [u8], at: usize, n: u32) -> usize
 {
     let a = hex4(out, at, n / 16 / 16 / 16 / 16);
     hex4(out, a, n)
+}
+
+// All eight figures after one space.
+pub fn spaced_hex8(out: &mut [u8], at: usize, n: u32) -> usize
+    ensures { λ r. ⌜ Put (now (out .entry)) at (32 ∷ hexadecimal 8 n) r (now (out .exit)) ⌝ }
+{
+    let a = three(
+        out,
+        at,
+        32,
+        hex_figure(n / 0x10000000),
+        hex_figure(n / 0x1000000),
+    );
+    let b = three(
+        out,
+        a,
+        hex_figure(n / 0x100000),
+        hex_figure(n / 0x10000),
+        hex_figure(n / 0x1000),
+    );
+    three(
+        out,
+        b,
+        hex_figure(n / 0x100),
+        hex_figure(n / 0x10),
+        hex_figure(n),
+    )
 }
 
 // ---- decimal
@@ -182,19 +207,30 @@ fn few(out: &mut [u8], at: usize, n: u32) -> usize
     last_four(out, at, n)
 }
 
-// A number in decimal: the figures of its ten-thousandth, if there is one, and four more.
+// The figures before the last four, or before the last eight: a number of at most four figures.
+fn top_of(n: u32) -> u32
+    ensures { λ r. ⌜ r ≡ cond (ltb n 10000) n (cond (ltb n 100000000) (n / 10000) (n / 100000000)) ⌝ }
+{
+    if n < 10000 {
+        return n;
+    }
+    if n < 100000000 {
+        return n / 10000;
+    }
+    n / 100000000
+}
+
+// A number in decimal: at most four figures, and four or eight more.
 pub fn decimal(out: &mut [u8], at: usize, n: u32) -> usize
     ensures { λ r. ⌜ Put (now (out .entry)) at (decimalFigures n) r (now (out .exit)) ⌝ }
 {
+    let a = few(out, at, top_of(n));
     if n < 10000 {
-        return few(out, at, n);
+        return a;
     }
-    let high = n / 10000;
-    if high < 10000 {
-        let a = few(out, at, high);
+    if n < 100000000 {
         return last_four(out, a, n);
     }
-    let b = few(out, at, high / 10000);
-    let c = last_four(out, b, high);
-    last_four(out, c, n)
+    let b = last_four(out, a, n / 10000);
+    last_four(out, b, n)
 }

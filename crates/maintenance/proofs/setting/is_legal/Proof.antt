@@ -1,26 +1,13 @@
--- `maintenance::setting::is_legal` meets its contract: by the setting. Assumes nothing.
-use borrow.Author.Needs.{needs}
+-- `maintenance::setting::is_legal` meets its contract: the test at the place of the setting is chosen. Assumes nothing.
+use Rattle.maintenance.proofs.Settings.{legal-chosen}
 use Rattle.maintenance.proofs.setting.is_legal.Statement.{statement}
 use Rattle.maintenance.proofs.setting.is_legal.Tie as tie
 
 returns : tie.Need-returns
-returns c = rw (c .enum-told .given .1)
-
-returns-2 : tie.Need-returns-2
-returns-2 c = rw (c .enum-told2 .given .1)
-
-returns-3 : tie.Need-returns-3
-returns-3 c = rw (c .enum-told3 .given .1)
-
-returns-4 : tie.Need-returns-4
-returns-4 c = rw (c .enum-told4 .given .1)
-
-returns-5 : tie.Need-returns-5
-returns-5 c = rw (c .enum-told5 .given .1)
-
-returns-6 : tie.Need-returns-6
-returns-6 c = rw (c .enum-told6 .given .1)
+returns c = rw (c .whether3 .ensures, c .before .whether2 .ensures, c .before .before .whether .ensures, c .before .before .before .order-of .ensures) (legal-chosen (c .before .before .before .before .args .rating) (c .before .before .before .before .args .setting) (c .before .before .before .before .args .value))
 
 pub is-legal-spec : {M : Type 1} → statement M
 is-legal-spec =
-    tie.close (tie.spec (λ c. search needs) (λ c. search needs) (λ c. search needs) (λ c. search needs) (λ c. search needs) (λ c. search needs) returns returns-2 returns-3 returns-4 returns-5 returns-6)
+    tie.close
+    (tie.spec
+    (λ c κs. tt) (λ c κs. tt) (λ c κs. tt) (λ c κs. tt) returns)

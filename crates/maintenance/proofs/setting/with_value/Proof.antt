@@ -1,26 +1,13 @@
--- `maintenance::setting::with_value` meets its contract: by the setting. Assumes nothing.
-use borrow.Author.Needs.{needs}
+-- `maintenance::setting::with_value` meets its contract: the value is chosen at the place of the setting, and what was there at the others. Assumes nothing.
+use Rattle.maintenance.proofs.Settings.{all-chosen}
 use Rattle.maintenance.proofs.setting.with_value.Statement.{statement}
 use Rattle.maintenance.proofs.setting.with_value.Tie as tie
 
 returns : tie.Need-returns
-returns c = rw (c .enum-told .given .1)
-
-returns-2 : tie.Need-returns-2
-returns-2 c = rw (c .enum-told2 .given .1)
-
-returns-3 : tie.Need-returns-3
-returns-3 c = rw (c .enum-told3 .given .1)
-
-returns-4 : tie.Need-returns-4
-returns-4 c = rw (c .enum-told4 .given .1)
-
-returns-5 : tie.Need-returns-5
-returns-5 c = rw (c .enum-told5 .given .1)
-
-returns-6 : tie.Need-returns-6
-returns-6 c = rw (c .enum-told6 .given .1)
+returns c = rw (c .either6 .ensures, c .before .either5 .ensures, c .before .before .either4 .ensures, c .before .before .before .either3 .ensures, c .before .before .before .before .either2 .ensures, c .before .before .before .before .before .either .ensures, c .before .before .before .before .before .before .order-of .ensures) (all-chosen (c .before .before .before .before .before .before .before .args .settings) (c .before .before .before .before .before .before .before .args .setting) (c .before .before .before .before .before .before .before .args .value))
 
 pub with-value-spec : {M : Type 1} → statement M
 with-value-spec =
-    tie.close (tie.spec (λ c. search needs) (λ c. search needs) (λ c. search needs) (λ c. search needs) (λ c. search needs) (λ c. search needs) returns returns-2 returns-3 returns-4 returns-5 returns-6)
+    tie.close
+    (tie.spec
+    (λ c κs. tt) (λ c κs. tt) (λ c κs. tt) (λ c κs. tt) (λ c κs. tt) (λ c κs. tt) (λ c κs. tt) returns)
