@@ -131,7 +131,8 @@ pub fn hex8(out: &mut [u8], at: usize, n: u32) -> usize
     hex4(out, a, n)
 }
 
-// All eight figures after one space.
+// All eight figures after one space. A line of a listing calls this in one place, so that it is compiled into the loop over the records; elsewhere
+// `byte` and `hex8` do.
 pub fn spaced_hex8(out: &mut [u8], at: usize, n: u32) -> usize
     ensures { λ r. ⌜ Put (now (out .entry)) at (32 ∷ hexadecimal 8 n) r (now (out .exit)) ⌝ }
 {
