@@ -21,14 +21,14 @@ use Rattle.codec.specs.declared.report.Report.the-variants.{IsolationSta
 use Rattle.codec.specs.declared.request.Request.{Request}
 use Rattle.codec.specs.declared.request.Request.the-variants.{ReadIsolationState, ReadResistances, ReadCapacitances, ReadVoltages, ReadBattery, ReadErrorFlags, ReadWord, ReadTemperature, SetWorkingVoltage}
 use Rattle.refusal.specs.declared.Refusal.the-variants.{OverLimits, NotListed, DoesNotFit}
-use Rattle.codec.specs.Frames.{bodyOf, frameOf, frameWith, refused, blank}
+use Rattle.codec.specs.Frames.{muxOf, bodyOf, frameOf, frameWith, refused, blank}
 use Rattle.codec.specs.Table.{Field, lineOf, unsigned, estimatesOf, voltageAt, flagsOf}
 use Rattle.refusal.specs.Conditions.{_when_}
 use Rattle.refusal.proofs.Conditions.{pick, pick-exactly, first-not-none}
-use Rattle.codec.specs.Answers.{estimates, toldBuilt}
+use Rattle.codec.specs.Answers.{estimates, reportMux, requestMux, toldBuilt}
 use Rattle.codec.specs.Reports.{badStatus}
 use Rattle.codec.specs.Building.{isSim100, unlisted, voltageMisfit, flagsMisfit, misfit, reportBytes, buildReport}
-use Rattle.codec.specs.Requests.{unlistedRequest, requestBytes, buildRequest}
+use Rattle.codec.specs.Requests.{unlistedRequest, readBytes, requestBytes, buildRequest}
 use Rattle.codec.specs.Conditions.{isNone, threeOf, threeAsked, fits, allFit, fiveOf, sixOf, reportBuildConditions, requestBuildConditions}
 use Rattle.codec.specs.Held.{HeldEstimates, HeldReport}
 use Rattle.codec.specs.Promise.{Builds}
@@ -188,3 +188,32 @@ request-is k identifier r =
 pub request-built : (k : Kind) (identifier : ℕ) (r : Request) → Builds (buildRequest k identifier r) (requestBuildConditions k identifier r) (frameOf identifier (bodyOf (requestBytes k r)))
 request-built k identifier r =
     builds (buildRequest k identifier r) (ltb 0x1FFFFFFF identifier) (threeAsked k r) false identifier (requestBytes k r) (request-is k identifier r)
+
+-- ---- byte 0
+
+pub report-first : (k : Kind) (identifier : ℕ) (r : Report) → muxOf (frameOf identifier (bodyOf (reportBytes k r))) ≡ reportMux r
+report-first k identifier (IsolationState e) = refl
+report-first k identifier (Resistances e) = refl
+report-first k identifier (Capacitances e) = refl
+report-first k identifier (PoleVoltages v) = refl
+report-first k identifier (BatteryVoltage b) = refl
+report-first Sim100 identifier (Errors e) = refl
+report-first Sim101 identifier (Errors e) = refl
+report-first k identifier (Word mux w) = refl
+report-first k identifier (Temperature z) = refl
+report-first k identifier (WorkingVoltage v) = refl
+
+read-first : (k : Kind) (identifier mux : ℕ) → muxOf (frameOf identifier (bodyOf (readBytes k mux))) ≡ mux
+read-first Sim100 identifier mux = refl
+read-first Sim101 identifier mux = refl
+
+pub request-first : (k : Kind) (identifier : ℕ) (r : Request) → muxOf (frameOf identifier (bodyOf (requestBytes k r))) ≡ requestMux r
+request-first k identifier ReadIsolationState = read-first k identifier 0xE0
+request-first k identifier ReadResistances = read-first k identifier 0xE1
+request-first k identifier ReadCapacitances = read-first k identifier 0xE2
+request-first k identifier ReadVoltages = read-first k identifier 0xE3
+request-first k identifier ReadBattery = read-first k identifier 0xE4
+request-first k identifier ReadErrorFlags = read-first k identifier 0xE5
+request-first k identifier (ReadWord mux) = read-first k identifier mux
+request-first k identifier ReadTemperature = read-first k identifier 0x80
+request-first k identifier (SetWorkingVoltage v) = refl

@@ -1,13 +1,17 @@
 -- The codec keeps its promise. Assumes nothing.
+use mathlib.Core.Path.{refl}
 use Rattle.codec.specs.Promise.{Promise}
 use Rattle.codec.proofs.Reading.{report-read, request-read}
-use Rattle.codec.proofs.Building.{report-built, request-built}
+use Rattle.codec.proofs.Building.{report-built, request-built, report-first, request-first}
 use Rattle.codec.proofs.ReadsBack.{report-reads-back, request-reads-back}
 use Rattle.codec.proofs.BuildsBack.{report-builds-back, request-builds-back}
 
 pub promise : Promise
 promise =
     record {
+      reports-first = report-first;
+      requests-first = request-first;
+      minus-100 = refl;
       reports-read = report-read;
       requests-read = request-read;
       reports-built = report-built;

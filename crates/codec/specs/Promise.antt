@@ -2,9 +2,10 @@
 use Prim.Native.Nat.{ℕ, _-_}
 use mathlib.Core.Path.{_≡_}
 use mathlib.Core.Bool.{cond, _&&_}
-use mathlib.Core.List.{List, _++_}
+use mathlib.Core.List.{List, [], _∷_, _++_}
 use mathlib.Core.Logic.{_↔_}
 use lib.Dec.{eqb}
+use lib.IntN.{negsuc}
 use lib.ListN.{take, replicate}
 use Rattle.refusal.specs.Conditions.{Condition, First, None, refusal, Answers}
 use Rattle.codec.specs.declared.frame.Frame.{Frame}
@@ -15,8 +16,10 @@ use Rattle.codec.specs.declared.report.Report.{Report}
 use Rattle.codec.specs.declared.report.ReportReading.the-variants.{Read}
 use Rattle.codec.specs.declared.request.Request.{Request}
 use Rattle.codec.specs.declared.request.RequestReading.the-variants.{Read as Asked}
+use Rattle.words.specs.Signed.{signedOf}
 use Rattle.codec.specs.Frames.{muxOf, bodyOf, frameOf, blank}
-use Rattle.codec.specs.Answers.{toldReport, toldRequest, toldBuilt}
+use Rattle.codec.specs.Table.{numberAt}
+use Rattle.codec.specs.Answers.{reportMux, requestMux, toldReport, toldRequest, toldBuilt}
 use Rattle.codec.specs.Conditions.{reportConditions, requestConditions, tableReport, tableRequest, reportBuildConditions, requestBuildConditions}
 use Rattle.codec.specs.Held.{HeldFrame, HeldReport, HeldRequest}
 use Rattle.codec.specs.Reports.{readReport}
@@ -65,6 +68,11 @@ RequestPastLength = (k : Kind) (expected : ℕ) (f : Frame) (r : Request) → He
 -- ---- the promise
 
 pub record Promise : Type 0 where
+  -- "Byte 0 is the multiplexer, repeated in the report."
+  pub reports-first : (k : Kind) (identifier : ℕ) (r : Report) → muxOf (frameOf identifier (bodyOf (reportBytes k r))) ≡ reportMux r
+  pub requests-first : (k : Kind) (identifier : ℕ) (r : Request) → muxOf (frameOf identifier (bodyOf (requestBytes k r))) ≡ requestMux r
+  -- "so FF 9C is minus 100"
+  pub minus-100 : signedOf 16 (numberAt (0xFF ∷ 0x9C ∷ []) 0 2) ≡ negsuc 99
   pub reports-read : (k : Kind) (expected : ℕ) (f : Frame) → Answers (toldReport (readReport k expected f)) (reportConditions k expected f) (tableReport k f)
   pub requests-read : (k : Kind) (expected : ℕ) (f : Frame) → Answers (toldRequest (readRequest k expected f)) (requestConditions k expected f) (tableRequest k f)
   pub reports-built : (k : Kind) (identifier : ℕ) (r : Report) → HeldReport r → Builds (buildReport k identifier r) (reportBuildConditions k identifier r) (frameOf identifier (bodyOf (reportBytes k r)))
