@@ -29,7 +29,7 @@ settingIn (s ∷ ss) c = cond (eqb c (code s)) (Known s) (settingIn ss c)
 abbrev pub settingOf : ℕ → Named
 settingOf c = settingIn inCodeOrder c
 
--- the place of a setting in that order, the first is 0
+-- the place of a setting in that order, the first is 0: only private contracts speak of it
 abbrev pub orderOf : Setting → ℕ
 orderOf ReceiveId = 0
 orderOf TransmitId = 1

@@ -8,7 +8,7 @@ use mathlib.Core.List.{List, [], _∷_, _++_}
 use lib.Dec.{eqb, ltb, lit≤}
 use lib.ListN.{length, getD, length-append}
 use mathlib.Core.List.{append-assoc}
-use borrow.Author.Tests.{lt-ltb, le-ltb, eq-eqb, ne-eqb, ltb-true, ltb-false, eqb-true, eqb-false}
+use borrow.Author.Tests.{lt-ltb, le-ltb, eq-eqb, ne-eqb, ltb-true, ltb-false}
 use Rattle.words.proofs.Tests.{by-test, decided, false-true, and-left, and-right, and-true}
 use Rattle.text.specs.Figures.{decimalUpTo, decimal, hexadecimal, figure, figureBy}
 
