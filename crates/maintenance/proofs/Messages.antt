@@ -20,16 +20,9 @@ use Rattle.maintenance.specs.declared.message.Message.the-variants.{Othe
 use Rattle.maintenance.specs.Settings.{code, settingOf}
 use Rattle.maintenance.specs.Messages.{byte, isUnlock, isCommit, isAnswer, asksSerial, asRead, asWrite, message, sameSeven, challengeOf, answerTo}
 use Rattle.maintenance.specs.Promise.{Says, HeardMeans, RightMeans}
+use Rattle.maintenance.proofs.Settings.{known-code}
 
 -- ---- codes
-
-code-named : (s : Setting) → settingOf (code s) ≡ Known s
-code-named ReceiveId = refl
-code-named TransmitId = refl
-code-named Speed = refl
-code-named Voltage = refl
-code-named WarningLevel = refl
-code-named FaultLevel = refl
 
 -- no code is a serial request
 code-apart : (s : Setting) → (leb 0x08 (code s) && leb (code s) 0x0B) ≡ false
@@ -63,28 +56,9 @@ says-serial f (inl l) low high = rw (l, le-leb 0x08 (byte f 0) low, le-leb (byte
 says-serial f (inr l) low high =
     rw (l, ne-eqb (byte f 0) 0x14 (λ e. omega arith), le-leb 0x08 (byte f 0) low, le-leb (byte f 0) 0x0B high) refl
 
-says-read : (f : Frame) (s : Setting) → f .length ≡ 1 → byte f 0 ≡ code s → message f ≡ Read s
-unfolding message
-says-read f s l b = rw (l, b, code-apart s, code-named s) refl
-
-says-write : (f : Frame) (s : Setting) → f .length ≡ 5 → byte f 0 ≡ code s → message f ≡ Write s (numberAt (f .bytes) 1 4)
-unfolding message
-says-write f s l b = rw (l, b, code-named s) refl
-
 pub says-unlock : (f : Frame) → isUnlock f ≡ true → message f ≡ Unlock
 unfolding message
 says-unlock f h = rw h refl
-
-pub says : (f : Frame) → Says f
-says f =
-    record {
-      unlock = says-unlock f;
-      commit = says-commit f;
-      answer = says-answer f;
-      serial = says-serial f;
-      read = says-read f;
-      write = says-write f;
-    }
 
 -- ---- whatever order the kinds are asked for in
 
@@ -120,6 +94,23 @@ pub other-said : (f : Frame) → isUnlock f ≡ false → isCommit f ≡ false �
 unfolding message
 other-said f unlock commit answer serial one five = rw (unlock, commit, answer, serial, one, five) refl
 
+says-read : (f : Frame) (s : Setting) → f .length ≡ 1 → byte f 0 ≡ code s → message f ≡ Read s
+says-read f s l b = read-said f (rw (l, b) (code-apart s)) (eq-eqb (f .length) 1 l) ∙ rw (b, known-code s) refl
+
+says-write : (f : Frame) (s : Setting) → f .length ≡ 5 → byte f 0 ≡ code s → message f ≡ Write s (numberAt (f .bytes) 1 4)
+says-write f s l b = write-said f (eq-eqb (f .length) 5 l) ∙ rw (b, known-code s) refl
+
+pub says : (f : Frame) → Says f
+says f =
+    record {
+      unlock = says-unlock f;
+      commit = says-commit f;
+      answer = says-answer f;
+      serial = says-serial f;
+      read = says-read f;
+      write = says-write f;
+    }
+
 -- ---- a serial request is one of 08 to 0B
 
 abbrev pub Listed : Message → Type 0
@@ -139,19 +130,19 @@ write-listed : (n : Named) (v : ℕ) → Listed (asWrite n v)
 write-listed Unknown v = tt
 write-listed (Known s) v = tt
 
-either : (t : Bool) (x y : Message) → (t ≡ true → Listed x) → Listed y → Listed (cond t x y)
-either true x y p q = p refl
-either false x y p q = q
+listed-by : (t : Bool) (x y : Message) → (t ≡ true → Listed x) → Listed y → Listed (cond t x y)
+listed-by true x y p q = p refl
+listed-by false x y p q = q
 
 pub serial-listed : (f : Frame) → Listed (message f)
 unfolding message
 serial-listed f =
-    either (isUnlock f) Unlock _ (λ t. tt)
-    (either (isCommit f) Commit _ (λ t. tt)
-    (either (isAnswer f) Answer _ (λ t. tt)
-    (either (asksSerial f) (SerialRequest (byte f 0)) _ (serial-bounds f)
-    (either (eqb (f .length) 1) (asRead (settingOf (byte f 0))) _ (λ t. read-listed (settingOf (byte f 0)))
-    (either (eqb (f .length) 5) (asWrite (settingOf (byte f 0)) (numberAt (f .bytes) 1 4)) Other (λ t. write-listed (settingOf (byte f 0)) (numberAt (f .bytes) 1 4)) tt)))))
+    listed-by (isUnlock f) Unlock _ (λ t. tt)
+    (listed-by (isCommit f) Commit _ (λ t. tt)
+    (listed-by (isAnswer f) Answer _ (λ t. tt)
+    (listed-by (asksSerial f) (SerialRequest (byte f 0)) _ (serial-bounds f)
+    (listed-by (eqb (f .length) 1) (asRead (settingOf (byte f 0))) _ (λ t. read-listed (settingOf (byte f 0)))
+    (listed-by (eqb (f .length) 5) (asWrite (settingOf (byte f 0)) (numberAt (f .bytes) 1 4)) Other (λ t. write-listed (settingOf (byte f 0)) (numberAt (f .bytes) 1 4)) tt)))))
 
 -- ---- right answers
 

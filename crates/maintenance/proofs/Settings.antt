@@ -133,7 +133,7 @@ speed-below v = by-test (eqb v 0x00CA0250) (λ (b : Bool). cond b 250 500 < 1000
 
 -- ---- a code is one setting's
 
-known-code : (s : Setting) → settingOf (code s) ≡ Known s
+pub known-code : (s : Setting) → settingOf (code s) ≡ Known s
 known-code ReceiveId = refl
 known-code TransmitId = refl
 known-code Speed = refl
