@@ -9,131 +9,99 @@ use codec::report::ReportReading;
 use codec::report::Voltages;
 use codec::request::Request;
 use codec::request::RequestReading;
+use show::Line;
+use show::byte;
+use show::decimal;
+use show::empty;
 use show::frame;
-use show::hex;
+use show::hex2;
 use show::refused;
 use show::text;
 use show::value;
 use words::twos::pattern32;
 
-fn signed(z: i32) {
+fn signed(l: Line, z: i32) -> Line {
     if z < 0 {
-        text(b" -");
-        io::print_decimal(1, 4294967296 - pattern32(z) as u64);
-    } else {
-        value(pattern32(z) as u64);
+        return decimal(text(l, b" -"), std::num::wrapping_sub_u32(0, pattern32(z)));
     }
+    value(l, pattern32(z))
 }
 
-fn estimates(e: Estimates) {
-    value(e.status as u64);
-    value(e.first as u64);
-    value(e.first_uncertainty as u64);
-    value(e.second as u64);
-    value(e.second_uncertainty as u64);
+fn estimates(l: Line, e: Estimates) -> Line {
+    let a = value(l, e.status as u32);
+    let b = value(value(a, e.first as u32), e.first_uncertainty as u32);
+    value(value(b, e.second as u32), e.second_uncertainty as u32)
 }
 
-fn voltages(v: Voltages) {
-    value(v.status as u64);
-    signed(v.vp);
-    value(v.vp_uncertainty as u64);
-    signed(v.vn);
-    value(v.vn_uncertainty as u64);
+fn voltages(l: Line, v: Voltages) -> Line {
+    let a = value(l, v.status as u32);
+    let b = value(signed(a, v.vp), v.vp_uncertainty as u32);
+    value(signed(b, v.vn), v.vn_uncertainty as u32)
 }
 
-fn battery(b: Battery) {
-    value(b.status as u64);
-    signed(b.vb);
-    value(b.vb_uncertainty as u64);
-    value(b.vb_max as u64);
-    value(b.vb_max_uncertainty as u64);
+fn battery(l: Line, v: Battery) -> Line {
+    let a = value(l, v.status as u32);
+    let b = value(signed(a, v.vb), v.vb_uncertainty as u32);
+    value(value(b, v.vb_max as u32), v.vb_max_uncertainty as u32)
 }
 
-fn flags(e: ErrorFlags) {
-    value(e.status as u64);
-    value(e.flags as u64);
+fn flags(l: Line, e: ErrorFlags) -> Line {
+    value(value(l, e.status as u32), e.flags as u32)
 }
 
-fn values(r: Report) {
+fn values(r: Report) -> Line {
+    let l = empty();
     match r {
-        Report::IsolationState(e) => {
-            text(b"E0");
-            estimates(e);
-        }
-        Report::Resistances(e) => {
-            text(b"E1");
-            estimates(e);
-        }
-        Report::Capacitances(e) => {
-            text(b"E2");
-            estimates(e);
-        }
-        Report::PoleVoltages(v) => {
-            text(b"E3");
-            voltages(v);
-        }
-        Report::BatteryVoltage(b) => {
-            text(b"E4");
-            battery(b);
-        }
-        Report::Errors(e) => {
-            text(b"E5");
-            flags(e);
-        }
-        Report::Word(mux, word) => {
-            hex(mux);
-            value(word as u64);
-        }
-        Report::Temperature(z) => {
-            text(b"80");
-            signed(z);
-        }
-        Report::WorkingVoltage(v) => {
-            text(b"F0");
-            value(v as u64);
-        }
+        Report::IsolationState(e) => estimates(text(l, b"E0"), e),
+        Report::Resistances(e) => estimates(text(l, b"E1"), e),
+        Report::Capacitances(e) => estimates(text(l, b"E2"), e),
+        Report::PoleVoltages(v) => voltages(text(l, b"E3"), v),
+        Report::BatteryVoltage(b) => battery(text(l, b"E4"), b),
+        Report::Errors(e) => flags(text(l, b"E5"), e),
+        Report::Word(mux, word) => value(hex2(l, mux), word),
+        Report::Temperature(z) => signed(text(l, b"80"), z),
+        Report::WorkingVoltage(v) => value(text(l, b"F0"), v as u32),
     }
 }
 
-pub fn report(r: ReportReading) {
+fn asked(r: Request) -> Line {
+    let l = empty();
     match r {
-        ReportReading::Read(report) => values(report),
-        ReportReading::Refused(why) => refused(why),
+        Request::ReadIsolationState => text(l, b"E0"),
+        Request::ReadResistances => text(l, b"E1"),
+        Request::ReadCapacitances => text(l, b"E2"),
+        Request::ReadVoltages => text(l, b"E3"),
+        Request::ReadBattery => text(l, b"E4"),
+        Request::ReadErrorFlags => text(l, b"E5"),
+        Request::ReadWord(mux) => hex2(l, mux),
+        Request::ReadTemperature => text(l, b"80"),
+        Request::SetWorkingVoltage(v) => value(text(l, b"F0"), v as u32),
     }
-    text(b"\n");
 }
 
-fn asked(r: Request) {
+fn ended(l: Line) -> Line {
+    byte(l, b'\n')
+}
+
+pub fn report(r: ReportReading) -> Line {
     match r {
-        Request::ReadIsolationState => text(b"E0"),
-        Request::ReadResistances => text(b"E1"),
-        Request::ReadCapacitances => text(b"E2"),
-        Request::ReadVoltages => text(b"E3"),
-        Request::ReadBattery => text(b"E4"),
-        Request::ReadErrorFlags => text(b"E5"),
-        Request::ReadWord(mux) => hex(mux),
-        Request::ReadTemperature => text(b"80"),
-        Request::SetWorkingVoltage(v) => {
-            text(b"F0");
-            value(v as u64);
-        }
+        ReportReading::Read(report) => ended(values(report)),
+        ReportReading::Refused(why) => ended(refused(empty(), why)),
     }
 }
 
-pub fn request(r: RequestReading) {
+pub fn request(r: RequestReading) -> Line {
     match r {
-        RequestReading::Read(request) => asked(request),
-        RequestReading::Refused(why) => refused(why),
+        RequestReading::Read(request) => ended(asked(request)),
+        RequestReading::Refused(why) => ended(refused(empty(), why)),
     }
-    text(b"\n");
 }
 
-pub fn built(b: Built) {
+pub fn built(b: Built) -> Line {
     let answer = b.answer;
     let f = b.frame;
     match answer {
-        Answer::Accepted => frame(f),
-        Answer::Refused(why) => refused(why),
+        Answer::Accepted => ended(frame(empty(), f)),
+        Answer::Refused(why) => ended(refused(empty(), why)),
     }
-    text(b"\n");
 }

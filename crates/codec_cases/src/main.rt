@@ -6,9 +6,15 @@ use codec::build::build_report;
 use codec::build::build_request;
 use codec::read::read_report;
 use codec::read::read_request;
+use door::LastWord;
+use door::turn::Turn;
+use door::turn::answered;
+use door::turn::begin;
+use show::Line;
+use show::written;
 
-// The question of a record put to the codec, and its answer shown.
-fn answer(r: [u8; 20]) {
+// The question of a record put to the codec, and the line of its answer.
+fn answer(r: [u8; 20]) -> Line {
     let what = r[0];
     match what {
         0 => line::report(read_report(ask::kind(r), ask::identifier(r), ask::frame(r))),
@@ -18,26 +24,36 @@ fn answer(r: [u8; 20]) {
     }
 }
 
-// A record is read and answered. False at the end of the input, and at a record that asks nothing known.
-fn answer_next() -> bool {
+fn answer_known(r: [u8; 20]) -> Turn {
+    if ask::known(r) {
+        return answered(written(answer(r)));
+    }
+    Turn::Over(LastWord::Refused)
+}
+
+// A record is read and answered, up to one that asks nothing known.
+fn answer_next() -> Turn {
     let mut r = [0u8; 20];
-    let n = io::read_full(0, &mut r);
-    if n < 20 {
-        return false;
+    let input = door::read_input(&mut r);
+    let turn = begin(input, 20);
+    match turn {
+        Turn::Next => answer_known(r),
+        Turn::Over(word) => Turn::Over(word),
     }
-    if !ask::known(r) {
-        return false;
-    }
-    answer(r);
-    true
 }
 
 fn main() {
     let mut turns: u64 = 0xFFFFFFFFFFFFFFFF;
     while turns > 0 {
-        if !answer_next() {
-            return;
+        let turn = answer_next();
+        match turn {
+            Turn::Next => {}
+            Turn::Over(word) => {
+                door::close(word);
+                return;
+            }
         }
         turns -= 1;
     }
+    door::close(LastWord::Cut);
 }

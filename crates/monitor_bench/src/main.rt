@@ -3,6 +3,7 @@ ghost use mathlib.Core.Path.{_≡_};
 ghost use Prim.Native.Nat.{_%_, _*_};
 ghost use Rattle.monitor_bench.specs.Sessions.{frameOn, fromHost, counts, plays, sessionFrom, unit};
 use codec::frame::Frame;
+use door::LastWord;
 use maintenance::setting::Settings;
 use monitor::bench::Bench;
 use monitor::bench::Outcome;
@@ -114,9 +115,16 @@ fn powered() -> Bench
     p.bench
 }
 
-fn print(sum: u64) {
-    io::print_decimal(1, sum);
-    show::text(b"\n");
+// The sum on a line, and the last word by whether it was written.
+fn write_sum(sum: u64) -> LastWord {
+    let figures = io::print_decimal(1, sum);
+    if figures {
+        let whole = door::write_first(b"\n", 1);
+        if whole {
+            return LastWord::Complete;
+        }
+    }
+    LastWord::Cut
 }
 
 fn main() {
@@ -130,5 +138,6 @@ fn main() {
         r = next;
         turn += 1;
     }
-    print(r.sum);
+    let word = write_sum(r.sum);
+    door::close(word);
 }

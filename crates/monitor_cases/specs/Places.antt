@@ -11,11 +11,8 @@ use Rattle.monitor.specs.Bench.{answeredTo}
 use Rattle.monitor_cases.specs.declared.Place.{Place}
 use Rattle.monitor_cases.specs.Cases.{eventIn}
 
-abbrev pub stoppedAt : Place → Place
-stoppedAt p = record { «goes_on» = false; on = p .on; bench = p .bench }
-
 abbrev pub holds : Bench → Place
-holds b = record { «goes_on» = true; on = true; bench = b }
+holds b = record { on = true; bench = b }
 
 -- where no monitor is on, an event reaches nothing
 abbrev pub eventBy : Bool → Place → List ℕ → Place

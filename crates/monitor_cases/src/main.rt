@@ -1,82 +1,84 @@
 // Plays the runs of a cases file on standard input, a line for each record: docs/MONITOR_CASES.md has both formats.
 ghost use mathlib.Core.Path.{_≡_};
-ghost use Rattle.monitor_cases.specs.Places.{stoppedAt, holds, afterEvent, afterPowerOn};
+ghost use Rattle.codec.specs.Table.{part, numberAt};
+ghost use Rattle.monitor.specs.Bench.{poweredOn};
+ghost use Rattle.monitor_cases.specs.Cases.{stampIn, settingsIn};
+ghost use Rattle.monitor_cases.specs.Places.{holds, afterEvent, afterPowerOn};
 
 mod line;
 mod record;
 
 use codec::frame::Answer;
+use door::LastWord;
+use door::turn::Turn;
+use door::turn::answered;
+use door::turn::begin;
+use door::turn::go_on;
 use maintenance::message::answer_to;
 use monitor::bench::Bench;
 use monitor::bench::Outcome;
 use monitor::bench::PoweredOn;
 use monitor::bench::no_bench;
 use monitor::bench::uptime;
+use show::Line;
+use show::written;
 
-// The place for a monitor, whether one is on in it, and whether the input goes on.
+// The place for a monitor, and whether one is on in it.
 struct Place {
-    goes_on: bool,
     on: bool,
     bench: Bench,
 }
 
-fn stopped(p: Place) -> Place
-    ensures { λ r. ⌜ r ≡ stoppedAt p ⌝ }
-{
-    let bench = p.bench;
-    Place {
-        goes_on: false,
-        on: p.on,
-        bench,
-    }
+// The place after a record, and the record's line.
+struct Answered {
+    place: Place,
+    line: Line,
+}
+
+// The place after a record, and whether there is a next one.
+struct Played {
+    place: Place,
+    turn: Turn,
 }
 
 // The place with this monitor on in it.
 fn holding(bench: Bench) -> Place
     ensures { λ r. ⌜ r ≡ holds bench ⌝ }
 {
-    Place {
-        goes_on: true,
-        on: true,
-        bench,
-    }
+    Place { on: true, bench }
 }
 
-// Before the first accepted power-on there is no monitor.
-fn no_monitor() {
-    show::text(b"no monitor\n");
-}
-
-fn question(p: Place, r: [u8; 20]) {
+fn question(p: Place, r: [u8; 20]) -> Line {
     let bench = p.bench;
     if p.on {
-        line::uptime(uptime(bench, record::stamp(r)));
-        line::settings(bench);
-    } else {
-        no_monitor();
+        return line::settings(line::uptime(uptime(bench, record::stamp(r))), bench);
+    }
+    line::no_monitor()
+}
+
+// The place after an event, and the event's line.
+fn shown(o: Outcome) -> Answered
+    ensures { λ r. ⌜ r .place ≡ holds (o .bench) ⌝ }
+{
+    let bench = o.bench;
+    Answered {
+        place: holding(bench),
+        line: line::settings(line::outcome(o), bench),
     }
 }
 
-// The place after an event, whose line is shown.
-fn shown(o: Outcome) -> Place
-    ensures { λ r. ⌜ r ≡ holds (o .bench) ⌝ }
-{
-    let bench = o.bench;
-    line::outcome(o);
-    line::settings(bench);
-    holding(bench)
-}
-
-fn event(p: Place, r: [u8; 20]) -> Place
-    ensures { λ x. ⌜ x ≡ afterEvent p r ⌝ }
+fn event(p: Place, r: [u8; 20]) -> Answered
+    ensures { λ x. ⌜ x .place ≡ afterEvent p r ⌝ }
 {
     let on = p.on;
     if on {
         let bench = p.bench;
         return shown(record::event(bench, r));
     }
-    no_monitor();
-    p
+    Answered {
+        place: p,
+        line: line::no_monitor(),
+    }
 }
 
 // An accepted power-on takes the place; a refused one leaves it as it was.
@@ -93,67 +95,109 @@ fn placed(p: Place, n: PoweredOn) -> Place
     }
 }
 
-fn power_on(p: Place, r: [u8; 20]) -> Place {
-    let mut rest = [0u8; 28];
-    let n = io::read_full(0, &mut rest);
-    if n < 28 {
-        return stopped(p);
-    }
-    let powered = record::powered_on(r, rest);
-    let answer = powered.answer;
-    line::power_on(answer);
-    let q = placed(p, powered);
+// The line of a power-on, by the place after it.
+fn power_on_line(first: Line, q: Place) -> Line {
     let bench = q.bench;
     if q.on {
-        line::settings(bench);
-    } else {
-        show::text(b"\n");
+        return line::settings(first, bench);
     }
-    q
+    line::ended(first)
 }
 
-fn answer_record(p: Place, r: [u8; 20]) -> Place {
+fn power_on(p: Place, r: [u8; 20], rest: [u8; 28]) -> Answered
+    ensures { λ x. ⌜ x .place ≡ afterPowerOn p (poweredOn (stampIn r) (part rest 12 16) (numberAt r 6 2) (settingsIn r rest)) ⌝ }
+{
+    let powered = record::powered_on(r, rest);
+    let answer = powered.answer;
+    let place = placed(p, powered);
+    Answered {
+        place,
+        line: power_on_line(line::power_on(answer), place),
+    }
+}
+
+// Nothing more is played.
+fn over(place: Place, word: LastWord) -> Played {
+    Played {
+        place,
+        turn: Turn::Over(word),
+    }
+}
+
+// The line is written.
+fn write_line(a: Answered) -> Played {
+    let place = a.place;
+    let line = a.line;
+    Played {
+        place,
+        turn: answered(written(line)),
+    }
+}
+
+// A power-on goes on past the first twenty bytes.
+fn next_power_on(p: Place, r: [u8; 20]) -> Played {
+    let mut rest = [0u8; 28];
+    let input = door::read_input(&mut rest);
+    let turn = go_on(input, 28);
+    match turn {
+        Turn::Next => write_line(power_on(p, r, rest)),
+        Turn::Over(word) => over(p, word),
+    }
+}
+
+fn answer_record(p: Place, r: [u8; 20]) -> Played {
     let kind = r[4];
     match kind {
-        3 => {
-            question(p, r);
-            p
-        }
-        4 => power_on(p, r),
-        5 => {
-            line::answer(answer_to(record::challenge(r)));
-            p
-        }
-        _ => event(p, r),
+        3 => write_line(Answered {
+            place: p,
+            line: question(p, r),
+        }),
+        4 => next_power_on(p, r),
+        5 => write_line(Answered {
+            place: p,
+            line: line::answer(answer_to(record::challenge(r))),
+        }),
+        _ => write_line(event(p, r)),
     }
 }
 
-// A record is read and answered. The input ends at its end, and at a record that asks nothing known.
-fn answer_next(p: Place) -> Place {
+fn answer_known(p: Place, r: [u8; 20]) -> Played {
+    if record::known(r) {
+        return answer_record(p, r);
+    }
+    over(p, LastWord::Refused)
+}
+
+// A record is read and answered, up to one that asks nothing known.
+fn answer_next(p: Place) -> Played {
     let mut r = [0u8; 20];
-    let n = io::read_full(0, &mut r);
-    if n < 20 {
-        return stopped(p);
+    let input = door::read_input(&mut r);
+    let turn = begin(input, 20);
+    match turn {
+        Turn::Next => answer_known(p, r),
+        Turn::Over(word) => over(p, word),
     }
-    if !record::known(r) {
-        return stopped(p);
-    }
-    answer_record(p, r)
 }
 
 fn main() {
     let mut p = Place {
-        goes_on: true,
         on: false,
         bench: no_bench(),
     };
     let mut turns: u64 = 0xFFFFFFFFFFFFFFFF;
     while turns > 0 {
         let q = answer_next(p);
-        if !q.goes_on {
-            return;
+        let turn = q.turn;
+        match turn {
+            Turn::Next => {}
+            Turn::Over(word) => {
+                door::close(word);
+                return;
+            }
         }
-        p = q;
+        let place = q.place;
+        p = place;
         turns -= 1;
     }
+    door::close(LastWord::Cut);
 }

@@ -1,4 +1,9 @@
 // Answers the sheet cases on standard input, as docs/SHEET_CASES.md lays them out.
+use door::LastWord;
+use door::turn::Turn;
+use door::turn::answered;
+use door::turn::begin;
+use door::turn::go_on;
 use maintenance::setting::Settings;
 use refusal::Refusal;
 use sheet::reading::Judged;
@@ -6,123 +11,146 @@ use sheet::reading::SheetRead;
 use sheet::reading::judge;
 use sheet::reading::read;
 use sheet::writing::write;
+use show::Line;
+use show::written;
 use text::written::Written;
 use words::Order;
 use words::word::word16;
 use words::word::word32;
 
-// A setting in eight hexadecimal digits after one space.
-fn setting(value: u32) {
-    show::text(b" ");
-    show::hex32(value);
+fn ended(l: Line) -> Line {
+    show::byte(l, b'\n')
 }
 
-fn settings(k: Settings) {
-    show::text(b"sheet");
-    setting(k.receive);
-    setting(k.transmit);
-    setting(k.speed);
-    setting(k.voltage);
-    setting(k.warning);
-    setting(k.fault);
-    show::text(b"\n");
+// ---- to be read
+
+// A setting in eight hexadecimal digits after one space.
+fn setting(l: Line, value: u32) -> Line {
+    show::hex8(show::byte(l, b' '), value)
+}
+
+fn settings(k: Settings) -> Line {
+    let l = show::text(show::empty(), b"sheet");
+    let ids = setting(setting(l, k.receive), k.transmit);
+    let rates = setting(setting(ids, k.speed), k.voltage);
+    ended(setting(setting(rates, k.warning), k.fault))
 }
 
 // The number of the refusal and the first line that is wrong.
-fn refused(why: Refusal, s: &[u8]) {
-    io::print_decimal(1, refusal::number(why) as u64);
+fn refused(why: Refusal, s: &[u8]) -> Line {
+    let number = show::decimal(show::empty(), refusal::number(why) as u32);
     let judged = judge(s);
     match judged {
-        Judged::Sheet(_) => show::text(b" no line is wrong"),
-        Judged::Wrong(line) => show::value(line as u64),
+        Judged::Sheet(_) => ended(show::text(number, b" no line is wrong")),
+        Judged::Wrong(line) => ended(show::value(number, line as u32)),
     }
-    show::text(b"\n");
 }
 
-// The bytes of a case are read and answered.
-fn answer_read(s: &mut [u8]) -> bool {
-    let n = io::read_full(0, s);
-    if n < s.len() {
-        return false;
-    }
+fn answer_read(s: &[u8]) -> Line {
     let answer = read(s);
     match answer {
         SheetRead::Settings(k) => settings(k),
         SheetRead::Refused(why) => refused(why, s),
     }
-    true
 }
 
-fn next_read(longest: &mut [u8]) -> bool {
-    let mut head = [0; 2];
-    let got = io::read_full(0, &mut head);
-    if got < 2 {
-        return false;
+// The bytes of a case are read and answered.
+fn next_bytes(s: &mut [u8]) -> Turn {
+    let input = door::read_input(s);
+    let turn = go_on(input, s.len());
+    match turn {
+        Turn::Next => answered(written(answer_read(s))),
+        Turn::Over(word) => Turn::Over(word),
     }
-    let length = word16(Order::Big, head[0], head[1]) as usize;
+}
+
+fn next_length(length: usize, longest: &mut [u8]) -> Turn {
     if longest.len() < length {
-        return false;
+        return Turn::Over(LastWord::Refused);
     }
-    answer_read(&mut longest[..length])
+    next_bytes(&mut longest[..length])
 }
 
-// The whole buffer as it is after the call, then the answer.
-fn answer_written(k: Settings, out: &mut [u8]) {
-    let answer = write(k, out);
-    show::text(out);
-    show::text(b"\n");
+fn next_read(longest: &mut [u8]) -> Turn {
+    let mut head = [0; 2];
+    let input = door::read_input(&mut head);
+    let turn = go_on(input, 2);
+    match turn {
+        Turn::Next => next_length(word16(Order::Big, head[0], head[1]) as usize, longest),
+        Turn::Over(word) => Turn::Over(word),
+    }
+}
+
+// ---- to be written
+
+// What follows the buffer. A text has at most 84 bytes.
+fn after_buffer(answer: Written) -> Line {
+    let l = ended(show::empty());
     match answer {
-        Written::Text(n) => {
-            show::text(b"text");
-            show::value(n as u64);
-        }
-        Written::Refused(why) => show::refused(why),
+        Written::Text(n) => ended(show::value(show::text(l, b"text"), (n % 65536) as u32)),
+        Written::Refused(why) => ended(show::refused(l, why)),
     }
-    show::text(b"\n");
 }
 
-// The next number of four bytes. Where the input ends in it, it ends before the room that follows too.
-fn next_setting() -> u32 {
-    let mut b = [0; 4];
-    io::read_full(0, &mut b);
-    word32(Order::Big, b[0], b[1], b[2], b[3])
+// The whole buffer as it is after the call, then the answer. False where they could not be written to their end.
+fn answer_written(k: Settings, out: &mut [u8]) -> bool {
+    let answer = write(k, out);
+    let whole = door::write_first(out, out.len());
+    if whole {
+        return written(after_buffer(answer));
+    }
+    false
+}
+
+fn settings_in(r: [u8; 26]) -> Settings {
+    Settings {
+        receive: word32(Order::Big, r[0], r[1], r[2], r[3]),
+        transmit: word32(Order::Big, r[4], r[5], r[6], r[7]),
+        speed: word32(Order::Big, r[8], r[9], r[10], r[11]),
+        voltage: word32(Order::Big, r[12], r[13], r[14], r[15]),
+        warning: word32(Order::Big, r[16], r[17], r[18], r[19]),
+        fault: word32(Order::Big, r[20], r[21], r[22], r[23]),
+    }
 }
 
 // A buffer of full stops is lent.
-fn next_written() -> bool {
-    let k = Settings {
-        receive: next_setting(),
-        transmit: next_setting(),
-        speed: next_setting(),
-        voltage: next_setting(),
-        warning: next_setting(),
-        fault: next_setting(),
-    };
-    let mut head = [0; 2];
-    let got = io::read_full(0, &mut head);
-    if got < 2 {
-        return false;
-    }
+fn next_room(r: [u8; 26]) -> Turn {
     let mut stops = [46; 4095];
-    let room = word16(Order::Big, head[0], head[1]) as usize;
+    let room = word16(Order::Big, r[24], r[25]) as usize;
     if stops.len() < room {
-        return false;
+        return Turn::Over(LastWord::Refused);
     }
-    answer_written(k, &mut stops[..room]);
-    true
+    answered(answer_written(settings_in(r), &mut stops[..room]))
 }
 
-// A case is read and answered. The input ends at its end, and at a case that asks nothing known.
-fn answer_next(longest: &mut [u8]) -> bool {
-    let mut kind = [0; 1];
-    let got = io::read_full(0, &mut kind);
-    if got < 1 {
-        return false;
+fn next_written() -> Turn {
+    let mut r = [0; 26];
+    let input = door::read_input(&mut r);
+    let turn = go_on(input, 26);
+    match turn {
+        Turn::Next => next_room(r),
+        Turn::Over(word) => Turn::Over(word),
     }
-    match kind[0] {
+}
+
+// ---- each case
+
+fn next_kind(kind: u8, longest: &mut [u8]) -> Turn {
+    match kind {
         0 => next_read(longest),
         1 => next_written(),
-        _ => false,
+        _ => Turn::Over(LastWord::Refused),
+    }
+}
+
+// A case is read and answered, up to one that asks nothing known.
+fn answer_next(longest: &mut [u8]) -> Turn {
+    let mut kind = [0; 1];
+    let input = door::read_input(&mut kind);
+    let turn = begin(input, 1);
+    match turn {
+        Turn::Next => next_kind(kind[0], longest),
+        Turn::Over(word) => Turn::Over(word),
     }
 }
 
@@ -131,10 +159,15 @@ fn main() {
     let longest: &mut [u8] = &mut bytes;
     let mut turns: u64 = 0xFFFFFFFFFFFFFFFF;
     while turns > 0 {
-        let goes_on = answer_next(longest);
-        if !goes_on {
-            return;
+        let turn = answer_next(longest);
+        match turn {
+            Turn::Next => {}
+            Turn::Over(word) => {
+                door::close(word);
+                return;
+            }
         }
         turns -= 1;
     }
+    door::close(LastWord::Cut);
 }

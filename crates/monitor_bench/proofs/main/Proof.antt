@@ -16,4 +16,4 @@ loop-less c = omega arith
 pub main-spec : {M : Type 1} → statement M
 main-spec =
     tie.close
-    (tie.spec Inv-loop μ-loop (λ c κs. tt) (λ c. tt) (λ c κs. tt) (λ c. omega arith) loop-less (λ c. tt) (λ c κs. tt) (λ c. tt))
+    (tie.spec Inv-loop μ-loop (λ c κs. tt) (λ c. tt) (λ c κs. tt) (λ c. omega arith) loop-less (λ c. tt) (λ c κs. tt) (λ c κs. tt) (λ c. tt))

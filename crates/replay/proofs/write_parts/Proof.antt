@@ -1,4 +1,4 @@
--- `replay::write_parts`: the loop holds what is left after so many parts. Assumes nothing.
+-- `replay::write_parts` meets its contract: the loop holds what is left after so many parts. Assumes nothing.
 use borrow.Author.Needs.{needs}
 use native.Mathlib.Omega.{arith}
 use native.Mathlib.Numerals.{add-one}
@@ -7,6 +7,7 @@ use mathlib.Core.Path.{_≡_, refl, ap, sym, _∙_}
 use lib.ListN.{length}
 use Rattle.text.proofs.Put.{kept-length}
 use Rattle.listing.specs.Output.{restAfter, restIn}
+use Rattle.replay.proofs.LastWord.{told}
 use Rattle.replay.proofs.write_parts.Statement.{statement}
 use Rattle.replay.proofs.write_parts.Tie as tie
 
@@ -21,7 +22,10 @@ unfolding restIn
 loop-holds c = (c .whole .ensures, refl)
 
 same-length : tie.Need-same-length Inv-loop μ-loop
-same-length c = c .before .before .loop .inv .1
+same-length c = c .before .before .before .loop .inv .1
+
+returns : tie.Need-returns Inv-loop μ-loop
+returns c = rw (c .last-word .ensures) (told (c .before .before .before .before .before .before .before .args .s .now) (c .before .before .before .loop .i) (c .before .before .before .loop .rest) (c .before .before .before .loop .inv .0))
 
 same-length-2 : tie.Need-same-length-2 Inv-loop μ-loop
 same-length-2 c = kept-length (c .before .before .before .before .before .next-part .ensures .text) ∙ c .before .before .before .before .before .before .before .before .before .loop .inv .1
@@ -37,10 +41,13 @@ loop-again c = (
 )
 
 same-length-3 : tie.Need-same-length-3 Inv-loop μ-loop
-same-length-3 c = c .before .loop .inv .1
+same-length-3 c = c .before .before .loop .inv .1
+
+returns-3 : tie.Need-returns-3 Inv-loop μ-loop
+returns-3 c = rw (c .last-word2 .ensures) (told (c .before .before .before .before .before .before .args .s .now) (c .before .before .loop .i) (c .before .before .loop .rest) (c .before .before .loop .inv .0))
 
 pub write-parts-spec : {M : Type 1} → statement M
 write-parts-spec =
     tie.close
     (tie.spec
-    Inv-loop μ-loop (λ c κs. tt) loop-holds same-length (λ c. tt) (λ c κs. tt) (λ c κs. tt) same-length-2 (λ c. tt) (λ c. search needs) loop-less loop-again same-length-3 (λ c. tt))
+    Inv-loop μ-loop (λ c κs. tt) loop-holds (λ c κs. tt) same-length returns (λ c κs. tt) (λ c κs. tt) same-length-2 (λ c. tt) (λ c. search needs) loop-less loop-again (λ c κs. tt) same-length-3 returns-3)

@@ -1,5 +1,6 @@
--- `replay_cases::main` meets its contract: the turns that are left fall. Assumes nothing.
+-- `replay_cases::main` ends: the turns that are left fall. Assumes nothing.
 use borrow.Author.Needs.{needs}
+use native.Mathlib.Omega.{arith}
 use Prim.Native.Nat.{ℕ}
 use mathlib.Core.Path.{sym}
 use lib.ListN.{length-replicate}
@@ -18,20 +19,11 @@ slice-aggregate-log c = sym (length-replicate {A = ℕ} 65535 0)
 slice-aggregate-text : tie.Need-slice-aggregate-text Inv-loop μ-loop
 slice-aggregate-text c = sym (length-replicate {A = ℕ} 138057 0)
 
-loop-holds : tie.Need-loop-holds Inv-loop μ-loop
-loop-holds c = tt
-
-returns : tie.Need-returns Inv-loop μ-loop
-returns c = tt
-
-loop-again : tie.Need-loop-again Inv-loop μ-loop
-loop-again c = tt
-
-returns-2 : tie.Need-returns-2 Inv-loop μ-loop
-returns-2 c = tt
+loop-less : tie.Need-loop-less Inv-loop μ-loop
+loop-less c = omega arith
 
 pub main-spec : {M : Type 1} → statement M
 main-spec =
     tie.close
     (tie.spec
-    Inv-loop μ-loop slice-aggregate-log slice-aggregate-text loop-holds (λ c κs. tt) returns (λ c. search needs) (λ c. search needs) loop-again returns-2)
+    Inv-loop μ-loop slice-aggregate-log slice-aggregate-text (λ c. tt) (λ c κs. tt) (λ c. search needs) (λ c. search needs) (λ c κs. tt) (λ c. tt) (λ c. omega arith) loop-less (λ c. tt) (λ c κs. tt) (λ c. tt))

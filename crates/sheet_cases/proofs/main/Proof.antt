@@ -1,5 +1,6 @@
--- `sheet_cases::main` meets its contract: the turns that are left fall. Assumes nothing.
+-- `sheet_cases::main` ends: the turns that are left fall. Assumes nothing.
 use borrow.Author.Needs.{needs}
+use native.Mathlib.Omega.{arith}
 use Prim.Native.Nat.{ℕ}
 use mathlib.Core.Path.{sym}
 use lib.ListN.{length-replicate}
@@ -15,20 +16,11 @@ abbrev μ-loop : tie.MeasureT-loop
 slice-aggregate-longest : tie.Need-slice-aggregate-longest Inv-loop μ-loop
 slice-aggregate-longest c = sym (length-replicate {A = ℕ} 4095 0)
 
-loop-holds : tie.Need-loop-holds Inv-loop μ-loop
-loop-holds c = tt
-
-returns : tie.Need-returns Inv-loop μ-loop
-returns c = tt
-
-loop-again : tie.Need-loop-again Inv-loop μ-loop
-loop-again c = tt
-
-returns-2 : tie.Need-returns-2 Inv-loop μ-loop
-returns-2 c = tt
+loop-less : tie.Need-loop-less Inv-loop μ-loop
+loop-less c = omega arith
 
 pub main-spec : {M : Type 1} → statement M
 main-spec =
     tie.close
     (tie.spec
-    Inv-loop μ-loop slice-aggregate-longest loop-holds (λ c κs. tt) returns (λ c. search needs) (λ c. search needs) loop-again returns-2)
+    Inv-loop μ-loop slice-aggregate-longest (λ c. tt) (λ c κs. tt) (λ c. search needs) (λ c. search needs) (λ c κs. tt) (λ c. tt) (λ c. omega arith) loop-less (λ c. tt) (λ c κs. tt) (λ c. tt))

@@ -1,0 +1,2 @@
+-- Laws of the last word.
+pub mod LastWord

@@ -1,0 +1,44 @@
+-- The last word of `replay`: complete only of a log that is accepted, refused only of one that is not, and neither while something is left to be written.
+use Prim.Native.Nat.{ℕ}
+use mathlib.Core.Path.{_≡_}
+use mathlib.Core.Bool.{Bool, true, false}
+use mathlib.Core.List.{List}
+use Rattle.codec.specs.declared.frame.Answer.{Answer}
+use Rattle.codec.specs.declared.frame.Answer.the-variants.{Accepted, Refused}
+use Rattle.refusal.specs.declared.Refusal.{Refusal}
+use Rattle.door.specs.declared.LastWord.{LastWord}
+use Rattle.door.specs.declared.LastWord.the-variants.{Complete, Refused as No, Unread, Cut}
+use Rattle.log.specs.Check.{checked}
+use Rattle.listing.specs.declared.output.Rest.{Rest}
+use Rattle.listing.specs.Output.{restIn}
+
+-- by how the log was answered
+abbrev pub wordFor : Answer → LastWord
+wordFor Accepted = Complete
+wordFor (Refused why) = No
+
+abbrev pub wordBy : Bool → Answer → LastWord
+wordBy true a = wordFor a
+wordBy false a = Cut
+
+abbrev pub wordOn : Rest → LastWord
+wordOn r = wordBy (r .over) (r .answer)
+
+-- the log is accepted, and after some number of parts nothing was left
+pub record WholeListing (s : List ℕ) : Type 0 where
+  pub accepted : checked s ≡ Accepted
+  pub parts : ℕ
+  pub over : restIn parts s .over ≡ true
+
+-- the log is refused, and after some number of parts nothing was left
+pub record WholeRefusal (s : List ℕ) : Type 0 where
+  pub why : Refusal
+  pub refused : checked s ≡ Refused why
+  pub parts : ℕ
+  pub over : restIn parts s .over ≡ true
+
+abbrev pub Told : List ℕ → LastWord → Type 0
+Told s Complete = WholeListing s
+Told s No = WholeRefusal s
+Told s Unread = ⊥
+Told s Cut = Unit {0}

@@ -1,0 +1,2 @@
+-- What the lines of answers speak of.
+pub mod Lines
