@@ -1,2 +1,4 @@
--- What the cases program speaks of: the records of docs/CODEC_CASES.md.
+-- What the cases program speaks of: the records and the lines of docs/CODEC_CASES.md.
 pub mod Cases
+pub mod Lines
+pub mod Answers

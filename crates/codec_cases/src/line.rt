@@ -1,4 +1,6 @@
-// Answers as lines of text.
+// Answers as lines of text, each put at the end of a line.
+ghost use Rattle.show.specs.Lines.{Adds};
+ghost use Rattle.codec_cases.specs.Lines.{signedText, estimatesText, voltagesText, batteryText, flagsText, reportText, requestText, reportLine, requestLine, builtLine};
 use codec::frame::Answer;
 use codec::frame::Built;
 use codec::report::Battery;
@@ -10,9 +12,8 @@ use codec::report::Voltages;
 use codec::request::Request;
 use codec::request::RequestReading;
 use show::Line;
-use show::byte;
 use show::decimal;
-use show::empty;
+use show::ended;
 use show::frame;
 use show::hex2;
 use show::refused;
@@ -20,37 +21,49 @@ use show::text;
 use show::value;
 use words::twos::pattern32;
 
-fn signed(l: Line, z: i32) -> Line {
-    if z < 0 {
-        return decimal(text(l, b" -"), std::num::wrapping_sub_u32(0, pattern32(z)));
+// A number by its pattern in two's complement.
+fn signed(l: Line, pattern: u32) -> Line
+    ensures { λ r. ⌜ Adds l (signedText pattern) r ⌝ }
+{
+    if pattern < 2147483648 {
+        return value(l, pattern);
     }
-    value(l, pattern32(z))
+    decimal(text(l, b" -"), 4294967295 - pattern + 1)
 }
 
-fn estimates(l: Line, e: Estimates) -> Line {
+fn estimates(l: Line, e: Estimates) -> Line
+    ensures { λ r. ⌜ Adds l (estimatesText e) r ⌝ }
+{
     let a = value(l, e.status as u32);
     let b = value(value(a, e.first as u32), e.first_uncertainty as u32);
     value(value(b, e.second as u32), e.second_uncertainty as u32)
 }
 
-fn voltages(l: Line, v: Voltages) -> Line {
+fn voltages(l: Line, v: Voltages) -> Line
+    ensures { λ r. ⌜ Adds l (voltagesText v) r ⌝ }
+{
     let a = value(l, v.status as u32);
-    let b = value(signed(a, v.vp), v.vp_uncertainty as u32);
-    value(signed(b, v.vn), v.vn_uncertainty as u32)
+    let b = value(signed(a, pattern32(v.vp)), v.vp_uncertainty as u32);
+    value(signed(b, pattern32(v.vn)), v.vn_uncertainty as u32)
 }
 
-fn battery(l: Line, v: Battery) -> Line {
+fn battery(l: Line, v: Battery) -> Line
+    ensures { λ r. ⌜ Adds l (batteryText v) r ⌝ }
+{
     let a = value(l, v.status as u32);
-    let b = value(signed(a, v.vb), v.vb_uncertainty as u32);
+    let b = value(signed(a, pattern32(v.vb)), v.vb_uncertainty as u32);
     value(value(b, v.vb_max as u32), v.vb_max_uncertainty as u32)
 }
 
-fn flags(l: Line, e: ErrorFlags) -> Line {
+fn flags(l: Line, e: ErrorFlags) -> Line
+    ensures { λ r. ⌜ Adds l (flagsText e) r ⌝ }
+{
     value(value(l, e.status as u32), e.flags as u32)
 }
 
-fn values(r: Report) -> Line {
-    let l = empty();
+fn values(l: Line, r: Report) -> Line
+    ensures { λ x. ⌜ Adds l (reportText r) x ⌝ }
+{
     match r {
         Report::IsolationState(e) => estimates(text(l, b"E0"), e),
         Report::Resistances(e) => estimates(text(l, b"E1"), e),
@@ -59,13 +72,14 @@ fn values(r: Report) -> Line {
         Report::BatteryVoltage(b) => battery(text(l, b"E4"), b),
         Report::Errors(e) => flags(text(l, b"E5"), e),
         Report::Word(mux, word) => value(hex2(l, mux), word),
-        Report::Temperature(z) => signed(text(l, b"80"), z),
+        Report::Temperature(z) => signed(text(l, b"80"), pattern32(z)),
         Report::WorkingVoltage(v) => value(text(l, b"F0"), v as u32),
     }
 }
 
-fn asked(r: Request) -> Line {
-    let l = empty();
+fn asked(l: Line, r: Request) -> Line
+    ensures { λ x. ⌜ Adds l (requestText r) x ⌝ }
+{
     match r {
         Request::ReadIsolationState => text(l, b"E0"),
         Request::ReadResistances => text(l, b"E1"),
@@ -79,29 +93,31 @@ fn asked(r: Request) -> Line {
     }
 }
 
-fn ended(l: Line) -> Line {
-    byte(l, b'\n')
-}
-
-pub fn report(r: ReportReading) -> Line {
+pub fn report(l: Line, r: ReportReading) -> Line
+    ensures { λ x. ⌜ Adds l (reportLine r) x ⌝ }
+{
     match r {
-        ReportReading::Read(report) => ended(values(report)),
-        ReportReading::Refused(why) => ended(refused(empty(), why)),
+        ReportReading::Read(report) => ended(values(l, report)),
+        ReportReading::Refused(why) => ended(refused(l, why)),
     }
 }
 
-pub fn request(r: RequestReading) -> Line {
+pub fn request(l: Line, r: RequestReading) -> Line
+    ensures { λ x. ⌜ Adds l (requestLine r) x ⌝ }
+{
     match r {
-        RequestReading::Read(request) => ended(asked(request)),
-        RequestReading::Refused(why) => ended(refused(empty(), why)),
+        RequestReading::Read(request) => ended(asked(l, request)),
+        RequestReading::Refused(why) => ended(refused(l, why)),
     }
 }
 
-pub fn built(b: Built) -> Line {
+pub fn built(l: Line, b: Built) -> Line
+    ensures { λ x. ⌜ Adds l (builtLine b) x ⌝ }
+{
     let answer = b.answer;
     let f = b.frame;
     match answer {
-        Answer::Accepted => ended(frame(empty(), f)),
-        Answer::Refused(why) => ended(refused(empty(), why)),
+        Answer::Accepted => ended(frame(l, f)),
+        Answer::Refused(why) => ended(refused(l, why)),
     }
 }

@@ -1,4 +1,7 @@
 // Answers the questions of a cases file on standard input, a line for each: docs/CODEC_CASES.md has both formats.
+ghost use Rattle.show.specs.Lines.{Adds};
+ghost use Rattle.codec_cases.specs.Answers.{answerLine};
+
 mod ask;
 mod line;
 
@@ -11,22 +14,27 @@ use door::turn::Turn;
 use door::turn::answered;
 use door::turn::begin;
 use show::Line;
+use show::empty;
 use show::written;
 
-// The question of a record put to the codec, and the line of its answer.
-fn answer(r: [u8; 20]) -> Line {
+// The question of a record put to the codec, and its answer at the end of a line.
+fn answer(l: Line, r: [u8; 20]) -> Line
+    ensures { λ x. ⌜ Adds l (answerLine r) x ⌝ }
+{
+    let kind = ask::kind(r);
+    let id = ask::identifier(r);
     let what = r[0];
     match what {
-        0 => line::report(read_report(ask::kind(r), ask::identifier(r), ask::frame(r))),
-        1 => line::request(read_request(ask::kind(r), ask::identifier(r), ask::frame(r))),
-        2 => line::built(build_report(ask::kind(r), ask::identifier(r), ask::report(r))),
-        _ => line::built(build_request(ask::kind(r), ask::identifier(r), ask::request(r))),
+        0 => line::report(l, read_report(kind, id, ask::frame(r))),
+        1 => line::request(l, read_request(kind, id, ask::frame(r))),
+        2 => line::built(l, build_report(kind, id, ask::report(r))),
+        _ => line::built(l, build_request(kind, id, ask::request(r))),
     }
 }
 
 fn answer_known(r: [u8; 20]) -> Turn {
     if ask::known(r) {
-        return answered(written(answer(r)));
+        return answered(written(answer(empty(), r)));
     }
     Turn::Over(LastWord::Refused)
 }

@@ -1,4 +1,6 @@
-// Answers as lines of text.
+// Answers as lines of text, each put at the end of a line.
+ghost use Rattle.show.specs.Lines.{Adds};
+ghost use Rattle.monitor_cases.specs.Lines.{storedText, noMonitorText, replyText, outcomeText, powerOnText, uptimeText, answerText};
 use codec::frame::Answer;
 use maintenance::message::Reply;
 use maintenance::setting::speed_number;
@@ -7,10 +9,9 @@ use monitor::bench::Outcome;
 use monitor::bench::UptimeReading;
 use monitor::bench::monitor;
 use monitor::unit::stored;
-use rules::time::Ticks;
 use show::Line;
 use show::byte;
-use show::empty;
+use show::ended;
 use show::frame;
 use show::hex8;
 use show::refused;
@@ -19,7 +20,9 @@ use show::text;
 use show::value;
 
 // The second part of a line, with its end.
-pub fn settings(l: Line, b: Bench) -> Line {
+pub fn settings(l: Line, b: Bench) -> Line
+    ensures { λ r. ⌜ Adds l (storedText b) r ⌝ }
+{
     let k = stored(monitor(b));
     let receive = hex8(text(l, b" stored "), k.receive);
     let ids = hex8(byte(receive, b' '), k.transmit);
@@ -27,56 +30,60 @@ pub fn settings(l: Line, b: Bench) -> Line {
     ended(value(value(rates, k.warning), k.fault))
 }
 
-// The end of a line that has no second part.
-pub fn ended(l: Line) -> Line {
-    byte(l, b'\n')
-}
-
 // The line where there is no monitor: before the first accepted power-on.
-pub fn no_monitor() -> Line {
-    text(empty(), b"no monitor\n")
+pub fn no_monitor(l: Line) -> Line
+    ensures { λ r. ⌜ Adds l noMonitorText r ⌝ }
+{
+    ended(text(l, b"no monitor"))
 }
 
-fn reply(r: Reply) -> Line {
+fn reply(l: Line, r: Reply) -> Line
+    ensures { λ x. ⌜ Adds l (replyText r) x ⌝ }
+{
     let f = r.frame;
-    if r.sent {
-        return frame(empty(), f);
+    let sent = r.sent;
+    if sent {
+        return frame(l, f);
     }
-    text(empty(), b"no reply")
+    text(l, b"no reply")
 }
 
 // The first part of an event's line.
-pub fn outcome(o: Outcome) -> Line {
+pub fn outcome(l: Line, o: Outcome) -> Line
+    ensures { λ x. ⌜ Adds l (outcomeText o) x ⌝ }
+{
     let answer = o.answer;
     let r = o.reply;
     match answer {
-        Answer::Accepted => reply(r),
-        Answer::Refused(why) => refused(empty(), why),
+        Answer::Accepted => reply(l, r),
+        Answer::Refused(why) => refused(l, why),
     }
 }
 
 // The first part of a power-on's line.
-pub fn power_on(answer: Answer) -> Line {
+pub fn power_on(l: Line, answer: Answer) -> Line
+    ensures { λ x. ⌜ Adds l (powerOnText answer) x ⌝ }
+{
     match answer {
-        Answer::Accepted => text(empty(), b"on"),
-        Answer::Refused(why) => refused(empty(), why),
+        Answer::Accepted => text(l, b"on"),
+        Answer::Refused(why) => refused(l, why),
     }
 }
 
-fn ticks(t: Ticks) -> Line {
-    value(text(empty(), b"ticks"), t.0)
-}
-
 // The first part of an uptime question's line.
-pub fn uptime(u: UptimeReading) -> Line {
+pub fn uptime(l: Line, u: UptimeReading) -> Line
+    ensures { λ x. ⌜ Adds l (uptimeText u) x ⌝ }
+{
     match u {
-        UptimeReading::Read(t) => ticks(t),
-        UptimeReading::Refused(why) => refused(empty(), why),
+        UptimeReading::Read(t) => value(text(l, b"ticks"), t.0),
+        UptimeReading::Refused(why) => refused(l, why),
     }
 }
 
 // The line of a challenge.
-pub fn answer(a: [u8; 7]) -> Line {
-    let b = spaced(spaced(spaced(text(empty(), b"answer"), a[0]), a[1]), a[2]);
+pub fn answer(l: Line, a: [u8; 7]) -> Line
+    ensures { λ x. ⌜ Adds l (answerText a) x ⌝ }
+{
+    let b = spaced(spaced(spaced(text(l, b"answer"), a[0]), a[1]), a[2]);
     ended(spaced(spaced(spaced(spaced(b, a[3]), a[4]), a[5]), a[6]))
 }

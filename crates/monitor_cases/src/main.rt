@@ -1,9 +1,8 @@
 // Plays the runs of a cases file on standard input, a line for each record: docs/MONITOR_CASES.md has both formats.
 ghost use mathlib.Core.Path.{_≡_};
-ghost use Rattle.codec.specs.Table.{part, numberAt};
-ghost use Rattle.monitor.specs.Bench.{poweredOn};
-ghost use Rattle.monitor_cases.specs.Cases.{stampIn, settingsIn};
+ghost use Rattle.show.specs.Lines.{Adds};
 ghost use Rattle.monitor_cases.specs.Places.{holds, afterEvent, afterPowerOn};
+ghost use Rattle.monitor_cases.specs.Answers.{Answers, questionLine, shownLine, eventLine, second, powerOnLine};
 
 mod line;
 mod record;
@@ -21,6 +20,8 @@ use monitor::bench::PoweredOn;
 use monitor::bench::no_bench;
 use monitor::bench::uptime;
 use show::Line;
+use show::empty;
+use show::ended;
 use show::written;
 
 // The place for a monitor, and whether one is on in it.
@@ -48,36 +49,40 @@ fn holding(bench: Bench) -> Place
     Place { on: true, bench }
 }
 
-fn question(p: Place, r: [u8; 20]) -> Line {
+fn question(l: Line, p: Place, r: [u8; 20]) -> Line
+    ensures { λ x. ⌜ Adds l (questionLine p r) x ⌝ }
+{
     let bench = p.bench;
-    if p.on {
-        return line::settings(line::uptime(uptime(bench, record::stamp(r))), bench);
+    let on = p.on;
+    if on {
+        let first = line::uptime(l, uptime(bench, record::stamp(r)));
+        return line::settings(first, bench);
     }
-    line::no_monitor()
+    line::no_monitor(l)
 }
 
 // The place after an event, and the event's line.
-fn shown(o: Outcome) -> Answered
-    ensures { λ r. ⌜ r .place ≡ holds (o .bench) ⌝ }
+fn shown(l: Line, o: Outcome) -> Answered
+    ensures { λ r. ⌜ Answers l (holds (o .bench)) (shownLine o) r ⌝ }
 {
     let bench = o.bench;
     Answered {
         place: holding(bench),
-        line: line::settings(line::outcome(o), bench),
+        line: line::settings(line::outcome(l, o), bench),
     }
 }
 
-fn event(p: Place, r: [u8; 20]) -> Answered
-    ensures { λ x. ⌜ x .place ≡ afterEvent p r ⌝ }
+fn event(l: Line, p: Place, r: [u8; 20]) -> Answered
+    ensures { λ x. ⌜ Answers l (afterEvent p r) (eventLine p r) x ⌝ }
 {
     let on = p.on;
     if on {
         let bench = p.bench;
-        return shown(record::event(bench, r));
+        return shown(l, record::event(bench, r));
     }
     Answered {
         place: p,
-        line: line::no_monitor(),
+        line: line::no_monitor(l),
     }
 }
 
@@ -95,24 +100,26 @@ fn placed(p: Place, n: PoweredOn) -> Place
     }
 }
 
-// The line of a power-on, by the place after it.
-fn power_on_line(first: Line, q: Place) -> Line {
+// The second part of a power-on's line, by the place after it.
+fn second_part(l: Line, q: Place) -> Line
+    ensures { λ r. ⌜ Adds l (second q) r ⌝ }
+{
     let bench = q.bench;
-    if q.on {
-        return line::settings(first, bench);
+    let on = q.on;
+    if on {
+        return line::settings(l, bench);
     }
-    line::ended(first)
+    ended(l)
 }
 
-fn power_on(p: Place, r: [u8; 20], rest: [u8; 28]) -> Answered
-    ensures { λ x. ⌜ x .place ≡ afterPowerOn p (poweredOn (stampIn r) (part rest 12 16) (numberAt r 6 2) (settingsIn r rest)) ⌝ }
+fn power_on(l: Line, p: Place, n: PoweredOn) -> Answered
+    ensures { λ r. ⌜ Answers l (afterPowerOn p n) (powerOnLine p n) r ⌝ }
 {
-    let powered = record::powered_on(r, rest);
-    let answer = powered.answer;
-    let place = placed(p, powered);
+    let answer = n.answer;
+    let place = placed(p, n);
     Answered {
         place,
-        line: power_on_line(line::power_on(answer), place),
+        line: second_part(line::power_on(l, answer), place),
     }
 }
 
@@ -140,7 +147,7 @@ fn next_power_on(p: Place, r: [u8; 20]) -> Played {
     let input = door::read_input(&mut rest);
     let turn = go_on(input, 28);
     match turn {
-        Turn::Next => write_line(power_on(p, r, rest)),
+        Turn::Next => write_line(power_on(empty(), p, record::powered_on(r, rest))),
         Turn::Over(word) => over(p, word),
     }
 }
@@ -150,14 +157,14 @@ fn answer_record(p: Place, r: [u8; 20]) -> Played {
     match kind {
         3 => write_line(Answered {
             place: p,
-            line: question(p, r),
+            line: question(empty(), p, r),
         }),
         4 => next_power_on(p, r),
         5 => write_line(Answered {
             place: p,
-            line: line::answer(answer_to(record::challenge(r))),
+            line: line::answer(empty(), answer_to(record::challenge(r))),
         }),
-        _ => write_line(event(p, r)),
+        _ => write_line(event(empty(), p, r)),
     }
 }
 

@@ -1,4 +1,7 @@
 // Answers the sheet cases on standard input, as docs/SHEET_CASES.md lays them out.
+ghost use mathlib.Core.Path.{_≡_};
+ghost use Rattle.show.specs.Lines.{Adds};
+ghost use Rattle.sheet_cases.specs.Lines.{settingText, sheetLine, wrongText, Judging, Reading, afterBuffer, settingsIn};
 use door::LastWord;
 use door::turn::Turn;
 use door::turn::answered;
@@ -12,45 +15,54 @@ use sheet::reading::judge;
 use sheet::reading::read;
 use sheet::writing::write;
 use show::Line;
+use show::ended;
 use show::written;
 use text::written::Written;
 use words::Order;
 use words::word::word16;
 use words::word::word32;
 
-fn ended(l: Line) -> Line {
-    show::byte(l, b'\n')
-}
-
 // ---- to be read
 
 // A setting in eight hexadecimal digits after one space.
-fn setting(l: Line, value: u32) -> Line {
+fn setting(l: Line, value: u32) -> Line
+    ensures { λ r. ⌜ Adds l (settingText value) r ⌝ }
+{
     show::hex8(show::byte(l, b' '), value)
 }
 
-fn settings(k: Settings) -> Line {
-    let l = show::text(show::empty(), b"sheet");
-    let ids = setting(setting(l, k.receive), k.transmit);
+fn settings(l: Line, k: Settings) -> Line
+    ensures { λ r. ⌜ Adds l (sheetLine k) r ⌝ }
+{
+    let ids = setting(setting(show::text(l, b"sheet"), k.receive), k.transmit);
     let rates = setting(setting(ids, k.speed), k.voltage);
     ended(setting(setting(rates, k.warning), k.fault))
 }
 
-// The number of the refusal and the first line that is wrong.
-fn refused(why: Refusal, s: &[u8]) -> Line {
-    let number = show::decimal(show::empty(), refusal::number(why) as u32);
-    let judged = judge(s);
+fn wrong(l: Line, judged: Judged) -> Line
+    ensures { λ r. ⌜ Adds l (wrongText judged) r ⌝ }
+{
     match judged {
-        Judged::Sheet(_) => ended(show::text(number, b" no line is wrong")),
-        Judged::Wrong(line) => ended(show::value(number, line as u32)),
+        Judged::Sheet(_) => show::text(l, b" no line is wrong"),
+        Judged::Wrong(line) => show::value(l, line as u32),
     }
 }
 
-fn answer_read(s: &[u8]) -> Line {
+// The number of the refusal and the first line that is wrong.
+fn refused(l: Line, why: Refusal, s: &[u8]) -> Line
+    ensures { λ r. ⌜ Judging (now (s .entry)) why l r ⌝ }
+{
+    let number = show::decimal(l, refusal::number(why) as u32);
+    ended(wrong(number, judge(s)))
+}
+
+fn answer_read(l: Line, s: &[u8]) -> Line
+    ensures { λ r. ⌜ Reading (now (s .entry)) l r ⌝ }
+{
     let answer = read(s);
     match answer {
-        SheetRead::Settings(k) => settings(k),
-        SheetRead::Refused(why) => refused(why, s),
+        SheetRead::Settings(k) => settings(l, k),
+        SheetRead::Refused(why) => refused(l, why, s),
     }
 }
 
@@ -59,7 +71,7 @@ fn next_bytes(s: &mut [u8]) -> Turn {
     let input = door::read_input(s);
     let turn = go_on(input, s.len());
     match turn {
-        Turn::Next => answered(written(answer_read(s))),
+        Turn::Next => answered(written(answer_read(show::empty(), s))),
         Turn::Over(word) => Turn::Over(word),
     }
 }
@@ -84,11 +96,13 @@ fn next_read(longest: &mut [u8]) -> Turn {
 // ---- to be written
 
 // What follows the buffer. A text has at most 84 bytes.
-fn after_buffer(answer: Written) -> Line {
-    let l = ended(show::empty());
+fn after_buffer(l: Line, answer: Written) -> Line
+    ensures { λ r. ⌜ Adds l (afterBuffer answer) r ⌝ }
+{
+    let begun = ended(l);
     match answer {
-        Written::Text(n) => ended(show::value(show::text(l, b"text"), (n % 65536) as u32)),
-        Written::Refused(why) => ended(show::refused(l, why)),
+        Written::Text(n) => ended(show::value(show::text(begun, b"text"), (n % 65536) as u32)),
+        Written::Refused(why) => ended(show::refused(begun, why)),
     }
 }
 
@@ -97,12 +111,14 @@ fn answer_written(k: Settings, out: &mut [u8]) -> bool {
     let answer = write(k, out);
     let whole = door::write_first(out, out.len());
     if whole {
-        return written(after_buffer(answer));
+        return written(after_buffer(show::empty(), answer));
     }
     false
 }
 
-fn settings_in(r: [u8; 26]) -> Settings {
+fn settings_in(r: [u8; 26]) -> Settings
+    ensures { λ x. ⌜ x ≡ settingsIn r ⌝ }
+{
     Settings {
         receive: word32(Order::Big, r[0], r[1], r[2], r[3]),
         transmit: word32(Order::Big, r[4], r[5], r[6], r[7]),

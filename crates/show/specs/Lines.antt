@@ -20,9 +20,17 @@ pub record Adds (l : Line) (t : List ℕ) (r : Line) : Type 0 where
   pub room : 160 ≡ length (l .bytes)
   pub put : Put (l .bytes) (l .n) t (r .n) (r .bytes)
 
+-- "Every line ends with one line feed"
+abbrev pub lineFeed : List ℕ
+lineFeed = 10 ∷ []
+
+-- "decimal, [..] each after one space"
+abbrev pub valueText : ℕ → List ℕ
+valueText n = 32 ∷ decimal n
+
 -- "`refused N`, N the number of document 01 in decimal"
 abbrev pub refusedText : Refusal → List ℕ
-refusedText why = letters "refused" ++ (32 ∷ decimal (numberOf why))
+refusedText why = letters "refused" ++ valueText (numberOf why)
 
 -- "the identifier in eight capital hexadecimal digits (three if the frame were standard)"
 abbrev pub identifierBy : Bool → ℕ → List ℕ
@@ -42,4 +50,4 @@ dataText b =
 
 -- "the identifier [..], the length in decimal, and all eight bytes"
 abbrev pub frameText : Frame → List ℕ
-frameText f = identifierText f ++ ((32 ∷ decimal (f .length)) ++ dataText (f .bytes))
+frameText f = identifierText f ++ (valueText (f .length) ++ dataText (f .bytes))

@@ -4,7 +4,7 @@ ghost use mathlib.Core.Path.{_≡_};
 ghost use mathlib.Core.List.{[], _∷_};
 ghost use Prim.Native.Nat.{_%_};
 ghost use Rattle.text.specs.Figures.{figure as figureOf, hexadecimal, decimal as decimalFigures};
-ghost use Rattle.show.specs.Lines.{Adds, refusedText, identifierText, dataText, frameText, noLine};
+ghost use Rattle.show.specs.Lines.{Adds, lineFeed, valueText, refusedText, identifierText, dataText, frameText, noLine};
 use codec::frame::Frame;
 use refusal::Refusal;
 use text::hex_figure;
@@ -84,7 +84,7 @@ pub fn decimal(l: Line, number: u32) -> Line
 
 // A number in decimal after one space.
 pub fn value(l: Line, number: u32) -> Line
-    ensures { λ r. ⌜ Adds l (32 ∷ decimalFigures number) r ⌝ }
+    ensures { λ r. ⌜ Adds l (valueText number) r ⌝ }
 {
     decimal(byte(l, 32), number)
 }
@@ -121,6 +121,13 @@ pub fn frame(l: Line, f: Frame) -> Line
 {
     let bytes = f.bytes;
     eight(value(identifier(l, f), f.length as u32), bytes)
+}
+
+// The end of a line.
+pub fn ended(l: Line) -> Line
+    ensures { λ r. ⌜ Adds l lineFeed r ⌝ }
+{
+    byte(l, b'\n')
 }
 
 // Writes the line. False where it could not be written to its end.
