@@ -3,7 +3,8 @@ use Prim.Native.Nat.{ℕ}
 use Rattle.door.specs.declared.LastWord.{LastWord}
 use Rattle.door.specs.declared.LastWord.the-variants.{Complete, Refused, Unread, Cut}
 
--- 0 complete; 1 refused, or the answer is no; 2 the input could not be read; 3 the output could not be written to its end
+-- 0 complete; 1 refused, or the answer is no; 2 the input could not be read; 3 the output could not be written to
+-- its end
 abbrev pub statusOf : LastWord → ℕ
 statusOf Complete = 0
 statusOf Refused = 1

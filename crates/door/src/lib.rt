@@ -9,7 +9,8 @@ pub mod turn;
 
 // ---- in
 
-// How many bytes stand at the start of a buffer, and whether a read failed. Where none failed, the input ended there or the buffer is full.
+// How many bytes stand at the start of a buffer, and whether a read failed. Where none failed, the input ended
+// there or the buffer is full.
 pub struct Input {
     pub n: usize,
     pub failed: bool,
@@ -45,7 +46,8 @@ pub fn read_input(buf: &mut [u8]) -> Input
 
 // ---- out
 
-// The first bytes of a text, and all of it if there are no more, on standard output. Answers whether they were written to their end.
+// The first bytes of a text, and all of it if there are no more, on standard output. Answers whether they were
+// written to their end.
 pub fn write_first(text: &[u8], n: usize) -> bool {
     if n <= text.len() {
         return io::write_all(1, &text[..n]);
@@ -55,8 +57,8 @@ pub fn write_first(text: &[u8], n: usize) -> bool {
 
 // ---- the last word
 
-// How a program ended: all was read, answered and written; something is refused, or the answer is no; the input could not be read; the output could
-// not be written to its end.
+// How a program ended: all was read, answered and written; something is refused, or the answer is no; the input
+// could not be read; the output could not be written to its end.
 pub enum LastWord {
     Complete,
     Refused,
@@ -76,8 +78,8 @@ fn figure(word: LastWord) -> u8
     }
 }
 
-// Says what went wrong, in a line on standard error, and then the word's figure on descriptor 9. Every program ends with this, after its last write: where no figure comes,
-// what it wrote is cut.
+// Says what went wrong, in a line on standard error, and then the word's figure on descriptor 9. Every program ends
+// with this, after its last write: where no figure comes, what it wrote is cut.
 pub fn close(word: LastWord) {
     match word {
         LastWord::Complete => {}

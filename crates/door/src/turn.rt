@@ -1,4 +1,5 @@
-// Programs that answer a row of questions: whether there is a next one, and with which word they end where there is none.
+// Programs that answer a row of questions: whether there is a next one, and with which word they end where there is
+// none.
 ghost use mathlib.Core.Path.{_≡_};
 ghost use Rattle.door.specs.Turns.{begun, goneOn, answered as answeredBy};
 use crate::Input;

@@ -1,4 +1,5 @@
-// Programs the fault level a million times, seven events a time, and prints a sum over every reply: bench/events times it beside plain C.
+// Programs the fault level a million times, seven events a time, and prints a sum over every reply: bench/events
+// times it beside plain C.
 ghost use mathlib.Core.Path.{_≡_};
 ghost use Prim.Native.Nat.{_%_, _*_};
 ghost use Rattle.monitor_bench.specs.Sessions.{frameOn, fromHost, counts, plays, sessionFrom, unit};
@@ -59,7 +60,8 @@ fn framed(r: Run, at: Stamp, f: Frame) -> Run
     counted(frame_event(bench, at, true, f), r.sum)
 }
 
-// A reset, and a session that writes and reads the fault level and commits it, with a frame of another node in between.
+// A reset, and a session that writes and reads the fault level and commits it, with a frame of another node in
+// between.
 fn session(start: Run, turn: u32) -> Run
     ensures { λ r. ⌜ r ≡ sessionFrom (turn % 1000000 * 4000) (turn % 256) start ⌝ }
 {

@@ -1,5 +1,5 @@
--- The place for a monitor after a record: docs/MONITOR_CASES.md, "A power-on that is accepted begins a new monitor [..]. A power-on
--- that is refused leaves the one before as it was."
+-- The place for a monitor after a record: docs/MONITOR_CASES.md, "A power-on that is accepted begins a new monitor
+-- [..]. A power-on that is refused leaves the one before as it was."
 use Prim.Native.Nat.{ℕ}
 use mathlib.Core.Bool.{Bool, true, false}
 use mathlib.Core.List.{List}

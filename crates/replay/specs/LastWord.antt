@@ -1,4 +1,5 @@
--- The last word of `replay`: complete only of a log that is accepted, refused only of one that is not, and neither while something is left to be written.
+-- The last word of `replay`: complete only of a log that is accepted, refused only of one that is not, and neither
+-- while something is left to be written.
 use Prim.Native.Nat.{ℕ}
 use mathlib.Core.Path.{_≡_}
 use mathlib.Core.Bool.{Bool, true, false}

@@ -22,8 +22,8 @@ fn last_word(rest: Rest) -> LastWord
     LastWord::Cut
 }
 
-// Writes the output of a log, part by part. 18 parts are always all of it. Where one cannot be written none follows, so that what is written is the
-// beginning of the output and never has a hole.
+// Writes the output of a log, part by part. 18 parts are always all of it. Where one cannot be written none
+// follows, so that what is written is the beginning of the output and never has a hole.
 fn write_parts(s: &[u8], text: &mut [u8]) -> LastWord
     ensures { λ r. ⌜ Told (now (s .entry)) r ⌝ }
 {
@@ -44,7 +44,8 @@ fn write_parts(s: &[u8], text: &mut [u8]) -> LastWord
     last_word(rest)
 }
 
-// One byte more than the longest log is read, and the buffer for the text holds every part. Nothing is written of an input that could not be read.
+// One byte more than the longest log is read, and the buffer for the text holds every part. Nothing is written of
+// an input that could not be read.
 fn main() {
     let mut log = [0; 64161];
     let input = door::read_input(&mut log);

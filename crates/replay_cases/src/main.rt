@@ -1,4 +1,5 @@
-// Answers the log cases on standard input, as docs/LOG_CASES.md lays them out, each by its listing or a line `refused N`.
+// Answers the log cases on standard input, as docs/LOG_CASES.md lays them out, each by its listing or a line
+// `refused N`.
 use door::LastWord;
 use door::turn::Turn;
 use door::turn::answered;

@@ -50,8 +50,8 @@ pub record Reading (s : List ℕ) (l r : Line) : Type 0 where
   pub reads : Reads s answer
   pub line : LineFor s answer l r
 
--- "a line feed, then one line: `text` and the length of the text in decimal after one space, or `refused 11` or `refused 12`"; no text
--- has 65,536 bytes
+-- "a line feed, then one line: `text` and the length of the text in decimal after one space, or `refused 11` or
+-- `refused 12`"; no text has 65,536 bytes
 abbrev pub afterText : Written → List ℕ
 afterText (Text n) = letters "text" ++ (valueText (n % 65536) ++ lineFeed)
 afterText (NotWritten why) = refusedText why ++ lineFeed

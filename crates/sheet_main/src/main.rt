@@ -1,4 +1,5 @@
-// Reads an order sheet: the sheet on standard input, the same bytes or `refused 11` and the line that is wrong on standard output.
+// Reads an order sheet: the sheet on standard input, the same bytes or `refused 11` and the line that is wrong on
+// standard output.
 ghost use Rattle.sheet_main.specs.LastWord.{Told};
 use door::LastWord;
 use sheet::output::output;
@@ -28,7 +29,8 @@ fn write_output(s: &[u8], text: &mut [u8]) -> LastWord
     last_word(s)
 }
 
-// One byte more than the longest sheet is read, and nothing that is written is longer than the buffer. Nothing is written of an input that could not be read.
+// One byte more than the longest sheet is read, and nothing that is written is longer than the buffer. Nothing is
+// written of an input that could not be read.
 fn main() {
     let mut bytes = [0; 85];
     let input = door::read_input(&mut bytes);

@@ -1,5 +1,5 @@
-// A line of an answer, the way the programs that answer cases write one: it is put together first and written at once, so that a program knows whether it
-// was written.
+// A line of an answer, the way the programs that answer cases write one: it is put together first and written at
+// once, so that a program knows whether it was written.
 ghost use mathlib.Core.Path.{_≡_};
 ghost use mathlib.Core.List.{[], _∷_};
 ghost use Prim.Native.Nat.{_%_};
@@ -9,7 +9,8 @@ use codec::frame::Frame;
 use refusal::Refusal;
 use text::hex_figure;
 
-// The bytes of the line and how many there are. None of the answers is longer than this; of one that was, no byte is written.
+// The bytes of the line and how many there are. None of the answers is longer than this; of one that was, no byte
+// is written.
 pub struct Line {
     pub bytes: [u8; 160],
     pub n: usize,

@@ -1,4 +1,5 @@
--- `door::read_input` meets its contract: the buffer keeps its length, and what was read ends within it. Assumes nothing.
+-- `door::read_input` meets its contract: the buffer keeps its length, and what was read ends within it. Assumes
+-- nothing.
 use borrow.Author.Needs.{needs}
 use native.Mathlib.Omega.{arith}
 use Prim.Native.Nat.{ℕ, _+_, _-_, _≤_}

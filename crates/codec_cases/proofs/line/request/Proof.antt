@@ -1,4 +1,5 @@
--- `codec_cases::line::request` meets its contract: the words, or the refusal, and the end of the line. Assumes nothing.
+-- `codec_cases::line::request` meets its contract: the words, or the refusal, and the end of the line. Assumes
+-- nothing.
 use borrow.Author.Needs.{needs}
 use Rattle.show.proofs.Adding.{and}
 use Rattle.codec_cases.proofs.line.request.Statement.{statement}
