@@ -47,6 +47,6 @@ abbrev pub powerOnLine : Place → PoweredOn → List ℕ
 powerOnLine p n = powerOnText (n .answer) ++ second (afterPowerOn p n)
 
 -- the place after a record is this one, and the text was put at the end of the line
-pub record Answers (l : Line) (after : Place) (text : List ℕ) (r : Answered) : Type 0 where
+pub record RecordAnswer (l : Line) (after : Place) (text : List ℕ) (r : Answered) : Type 0 where
   pub keeps : r .place ≡ after
   pub adds : Adds l text (r .line)

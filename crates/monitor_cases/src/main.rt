@@ -2,7 +2,7 @@
 ghost use mathlib.Core.Path.{_≡_};
 ghost use Rattle.show.specs.Lines.{Adds};
 ghost use Rattle.monitor_cases.specs.Places.{holds, afterEvent, afterPowerOn};
-ghost use Rattle.monitor_cases.specs.Answers.{Answers, questionLine, shownLine, eventLine, second, powerOnLine};
+ghost use Rattle.monitor_cases.specs.Answers.{RecordAnswer, questionLine, shownLine, eventLine, second, powerOnLine};
 
 mod line;
 mod record;
@@ -63,7 +63,7 @@ fn question(l: Line, p: Place, r: [u8; 20]) -> Line
 
 // The place after an event, and the event's line.
 fn shown(l: Line, o: Outcome) -> Answered
-    ensures { λ r. ⌜ Answers l (holds (o .bench)) (shownLine o) r ⌝ }
+    ensures { λ r. ⌜ RecordAnswer l (holds (o .bench)) (shownLine o) r ⌝ }
 {
     let bench = o.bench;
     Answered {
@@ -73,7 +73,7 @@ fn shown(l: Line, o: Outcome) -> Answered
 }
 
 fn event(l: Line, p: Place, r: [u8; 20]) -> Answered
-    ensures { λ x. ⌜ Answers l (afterEvent p r) (eventLine p r) x ⌝ }
+    ensures { λ x. ⌜ RecordAnswer l (afterEvent p r) (eventLine p r) x ⌝ }
 {
     let on = p.on;
     if on {
@@ -113,7 +113,7 @@ fn second_part(l: Line, q: Place) -> Line
 }
 
 fn power_on(l: Line, p: Place, n: PoweredOn) -> Answered
-    ensures { λ r. ⌜ Answers l (afterPowerOn p n) (powerOnLine p n) r ⌝ }
+    ensures { λ r. ⌜ RecordAnswer l (afterPowerOn p n) (powerOnLine p n) r ⌝ }
 {
     let answer = n.answer;
     let place = placed(p, n);

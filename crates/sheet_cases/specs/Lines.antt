@@ -35,17 +35,17 @@ abbrev pub wrongLine : Refusal → Judged → List ℕ
 wrongLine why j = decimal (numberOf why) ++ (wrongText j ++ lineFeed)
 
 -- the line of bytes that are no sheet, by how they are judged
-pub record Judging (s : List ℕ) (why : Refusal) (l r : Line) : Type 0 where
+pub record WrongAnswer (s : List ℕ) (why : Refusal) (l r : Line) : Type 0 where
   pub judged : Judged
   pub judges : Judges s judged
   pub adds : Adds l (wrongLine why judged) r
 
 abbrev pub LineFor : List ℕ → SheetRead → Line → Line → Type 0
 LineFor s (ASheet k) l r = Adds l (sheetLine k) r
-LineFor s (NoSheet why) l r = Judging s why l r
+LineFor s (NoSheet why) l r = WrongAnswer s why l r
 
 -- the line of bytes to be read, by what is read
-pub record Reading (s : List ℕ) (l r : Line) : Type 0 where
+pub record SheetAnswer (s : List ℕ) (l r : Line) : Type 0 where
   pub answer : SheetRead
   pub reads : Reads s answer
   pub line : LineFor s answer l r

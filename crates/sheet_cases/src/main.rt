@@ -1,7 +1,7 @@
 // Answers the sheet cases on standard input, as docs/SHEET_CASES.md lays them out.
 ghost use mathlib.Core.Path.{_≡_};
 ghost use Rattle.show.specs.Lines.{Adds};
-ghost use Rattle.sheet_cases.specs.Lines.{settingText, sheetLine, wrongText, Judging, Reading, afterBuffer, settingsIn};
+ghost use Rattle.sheet_cases.specs.Lines.{settingText, sheetLine, wrongText, WrongAnswer, SheetAnswer, afterBuffer, settingsIn};
 use door::LastWord;
 use door::turn::Turn;
 use door::turn::answered;
@@ -50,14 +50,14 @@ fn wrong(l: Line, judged: Judged) -> Line
 
 // The number of the refusal and the first line that is wrong.
 fn refused(l: Line, why: Refusal, s: &[u8]) -> Line
-    ensures { λ r. ⌜ Judging (now (s .entry)) why l r ⌝ }
+    ensures { λ r. ⌜ WrongAnswer (now (s .entry)) why l r ⌝ }
 {
     let number = show::decimal(l, refusal::number(why) as u32);
     ended(wrong(number, judge(s)))
 }
 
 fn answer_read(l: Line, s: &[u8]) -> Line
-    ensures { λ r. ⌜ Reading (now (s .entry)) l r ⌝ }
+    ensures { λ r. ⌜ SheetAnswer (now (s .entry)) l r ⌝ }
 {
     let answer = read(s);
     match answer {
