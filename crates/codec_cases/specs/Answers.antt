@@ -4,10 +4,10 @@ use mathlib.Core.Bool.{cond}
 use mathlib.Core.List.{List}
 use lib.Dec.{eqb}
 use lib.ListN.{getD}
-use Rattle.codec.specs.Table.{numberAt}
-use Rattle.codec.specs.Reports.{readReport}
-use Rattle.codec.specs.Requests.{readRequest, buildRequest}
-use Rattle.codec.specs.Building.{buildReport}
+use Rattle.codec_pages.specs.Table.{numberAt}
+use Rattle.codec_pages.specs.Reports.{readReport}
+use Rattle.codec_pages.specs.Requests.{readRequest, buildRequest}
+use Rattle.codec_pages.specs.Building.{buildReport}
 use Rattle.codec_cases.specs.Cases.{kindAsked, frameAsked, reportAsked, requestAsked}
 use Rattle.codec_cases.specs.Lines.{reportLine, requestLine, builtLine}
 

@@ -5,22 +5,22 @@ use mathlib.Core.List.{List}
 use lib.Dec.{ltb, eqb}
 use lib.ListN.{getD}
 use Rattle.words.specs.Signed.{signedOf}
-use Rattle.codec.specs.Table.{part, numberAt}
-use Rattle.codec.specs.declared.frame.Frame.{Frame}
-use Rattle.codec.specs.declared.rows.Kind.{Kind}
-use Rattle.codec.specs.declared.rows.Kind.the-variants.{Sim100, Sim101}
-use Rattle.codec.specs.declared.report.Estimates.{Estimates}
-use Rattle.codec.specs.declared.report.Voltages.{Voltages}
-use Rattle.codec.specs.declared.report.Battery.{Battery}
-use Rattle.codec.specs.declared.report.ErrorFlags.{ErrorFlags}
-use Rattle.codec.specs.declared.report.Report.{Report}
-use Rattle.codec.specs.declared.report.Report.the-variants.{IsolationState, Resistances, Capacitances, PoleVoltages, BatteryVoltage, Errors, Word, Temperature, WorkingVoltage}
-use Rattle.codec.specs.declared.request.Request.{Request}
-use Rattle.codec.specs.declared.request.Request.the-variants.{ReadIsolationState, ReadResistances, ReadCapacitances, ReadVoltages, ReadBattery, ReadErrorFlags, ReadWord, ReadTemperature, SetWorkingVoltage}
+use Rattle.codec_pages.specs.Table.{part, numberAt}
+use Rattle.codec_pages.specs.declared.frame.Frame.{Frame}
+use Rattle.codec_pages.specs.declared.rows.Kind.{Kind}
+use Rattle.codec_pages.specs.declared.rows.Kind.the-variants.{Sim100, Sim101}
+use Rattle.codec_pages.specs.declared.report.Estimates.{Estimates}
+use Rattle.codec_pages.specs.declared.report.Voltages.{Voltages}
+use Rattle.codec_pages.specs.declared.report.Battery.{Battery}
+use Rattle.codec_pages.specs.declared.report.ErrorFlags.{ErrorFlags}
+use Rattle.codec_pages.specs.declared.report.Report.{Report}
+use Rattle.codec_pages.specs.declared.report.Report.the-variants.{IsolationState, Resistances, Capacitances, PoleVoltages, BatteryVoltage, Errors, Word, Temperature, WorkingVoltage}
+use Rattle.codec_pages.specs.declared.request.Request.{Request}
+use Rattle.codec_pages.specs.declared.request.Request.the-variants.{ReadIsolationState, ReadResistances, ReadCapacitances, ReadVoltages, ReadBattery, ReadErrorFlags, ReadWord, ReadTemperature, SetWorkingVoltage}
 
 -- byte 0: 0 read a report, 1 read a request, 2 build a report, 3 build a request; byte 1: the kind; building, byte 6: which
-abbrev pub knownCase : List ℕ → Bool
-knownCase r = ltb (getD r 1 0) 2 && (ltb (getD r 0 0) 2 || ltb (getD r 0 0) 4 && ltb (getD r 6 0) 9)
+abbrev pub knownQuestion : List ℕ → Bool
+knownQuestion r = ltb (getD r 1 0) 2 && (ltb (getD r 0 0) 2 || ltb (getD r 0 0) 4 && ltb (getD r 6 0) 9)
 
 abbrev pub kindAsked : List ℕ → Kind
 kindAsked r = cond (eqb (getD r 1 0) 0) Sim100 Sim101

@@ -6,31 +6,31 @@ use lib.Dec.{ltb}
 use Rattle.words.specs.Signed.{patternOf}
 use Rattle.text.specs.Figures.{hexadecimal, decimal}
 use Rattle.text.specs.Letters.{letters}
-use Rattle.codec.specs.declared.frame.Frame.{Frame}
-use Rattle.codec.specs.declared.frame.Answer.{Answer}
-use Rattle.codec.specs.declared.frame.Answer.the-variants.{Accepted, Refused as NotBuilt}
-use Rattle.codec.specs.declared.frame.Built.{Built}
-use Rattle.codec.specs.declared.report.Estimates.{Estimates}
-use Rattle.codec.specs.declared.report.Voltages.{Voltages}
-use Rattle.codec.specs.declared.report.Battery.{Battery}
-use Rattle.codec.specs.declared.report.ErrorFlags.{ErrorFlags}
-use Rattle.codec.specs.declared.report.Report.{Report}
-use Rattle.codec.specs.declared.report.Report.the-variants.{IsolationState, Resistances, Capacitances, PoleVoltages, BatteryVoltage, Errors, Word, Temperature, WorkingVoltage}
-use Rattle.codec.specs.declared.report.ReportReading.{ReportReading}
-use Rattle.codec.specs.declared.report.ReportReading.the-variants.{Read as ReportRead, Refused as NoReport}
-use Rattle.codec.specs.declared.request.Request.{Request}
-use Rattle.codec.specs.declared.request.Request.the-variants.{ReadIsolationState, ReadResistances, ReadCapacitances, ReadVoltages, ReadBattery, ReadErrorFlags, ReadWord, ReadTemperature, SetWorkingVoltage}
-use Rattle.codec.specs.declared.request.RequestReading.{RequestReading}
-use Rattle.codec.specs.declared.request.RequestReading.the-variants.{Read as RequestRead, Refused as NoRequest}
+use Rattle.codec_pages.specs.declared.frame.Frame.{Frame}
+use Rattle.refusal.specs.declared.Acceptance.{Acceptance}
+use Rattle.refusal.specs.declared.Acceptance.the-variants.{Accepted, Refused as NotBuilt}
+use Rattle.codec_pages.specs.declared.frame.Built.{Built}
+use Rattle.codec_pages.specs.declared.report.Estimates.{Estimates}
+use Rattle.codec_pages.specs.declared.report.Voltages.{Voltages}
+use Rattle.codec_pages.specs.declared.report.Battery.{Battery}
+use Rattle.codec_pages.specs.declared.report.ErrorFlags.{ErrorFlags}
+use Rattle.codec_pages.specs.declared.report.Report.{Report}
+use Rattle.codec_pages.specs.declared.report.Report.the-variants.{IsolationState, Resistances, Capacitances, PoleVoltages, BatteryVoltage, Errors, Word, Temperature, WorkingVoltage}
+use Rattle.codec_pages.specs.declared.report.ReportReading.{ReportReading}
+use Rattle.codec_pages.specs.declared.report.ReportReading.the-variants.{Read as ReportRead, Refused as NoReport}
+use Rattle.codec_pages.specs.declared.request.Request.{Request}
+use Rattle.codec_pages.specs.declared.request.Request.the-variants.{ReadIsolationState, ReadResistances, ReadCapacitances, ReadVoltages, ReadBattery, ReadErrorFlags, ReadWord, ReadTemperature, SetWorkingVoltage}
+use Rattle.codec_pages.specs.declared.request.RequestReading.{RequestReading}
+use Rattle.codec_pages.specs.declared.request.RequestReading.the-variants.{Read as RequestRead, Refused as NoRequest}
 use Rattle.show.specs.Lines.{lineFeed, valueText, refusedText, frameText}
 
 -- "a minus sign before a negative one": the upper half of the patterns of 32 bits
-abbrev pub signedBy : Bool → ℕ → List ℕ
-signedBy true n = valueText n
-signedBy false n = (32 ∷ 45 ∷ []) ++ decimal (4294967296 - n)
+abbrev pub signedTextBy : Bool → ℕ → List ℕ
+signedTextBy true n = valueText n
+signedTextBy false n = (32 ∷ 45 ∷ []) ++ decimal (4294967296 - n)
 
 abbrev pub signedText : ℕ → List ℕ
-signedText n = signedBy (ltb n 2147483648) n
+signedText n = signedTextBy (ltb n 2147483648) n
 
 -- "in the order of document 01's table"
 abbrev pub estimatesText : Estimates → List ℕ
@@ -80,9 +80,9 @@ abbrev pub requestLine : RequestReading → List ℕ
 requestLine (RequestRead r) = requestText r ++ lineFeed
 requestLine (NoRequest why) = refusedText why ++ lineFeed
 
-abbrev pub builtBy : Answer → Frame → List ℕ
+abbrev pub builtBy : Acceptance → Frame → List ℕ
 builtBy Accepted f = frameText f ++ lineFeed
 builtBy (NotBuilt why) f = refusedText why ++ lineFeed
 
 abbrev pub builtLine : Built → List ℕ
-builtLine b = builtBy (b .answer) (b .frame)
+builtLine b = builtBy (b .acceptance) (b .frame)

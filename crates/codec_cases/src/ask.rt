@@ -1,15 +1,15 @@
 // A record of a cases file taken apart.
 ghost use mathlib.Core.Path.{_≡_};
-ghost use Rattle.codec.specs.Table.{numberAt};
-ghost use Rattle.codec_cases.specs.Cases.{knownCase, kindAsked, frameAsked, estimatesAsked, voltagesAsked, batteryAsked, flagsAsked, reportAsked, requestAsked};
-use codec::frame::Frame;
-use codec::report::Battery;
-use codec::report::ErrorFlags;
-use codec::report::Estimates;
-use codec::report::Report;
-use codec::report::Voltages;
-use codec::request::Request;
-use codec::rows::Kind;
+ghost use Rattle.codec_pages.specs.Table.{numberAt};
+ghost use Rattle.codec_cases.specs.Cases.{knownQuestion, kindAsked, frameAsked, estimatesAsked, voltagesAsked, batteryAsked, flagsAsked, reportAsked, requestAsked};
+use codec_pages::frame::Frame;
+use codec_pages::report::Battery;
+use codec_pages::report::ErrorFlags;
+use codec_pages::report::Estimates;
+use codec_pages::report::Report;
+use codec_pages::report::Voltages;
+use codec_pages::request::Request;
+use codec_pages::rows::Kind;
 use words::Order;
 use words::twos::signed32;
 use words::word::word16;
@@ -17,7 +17,7 @@ use words::word::word32;
 
 // Whether the record asks anything that docs/CODEC_CASES.md lists.
 pub fn known(r: [u8; 20]) -> bool
-    ensures { λ x. ⌜ x ≡ knownCase r ⌝ }
+    ensures { λ x. ⌜ x ≡ knownQuestion r ⌝ }
 {
     (r[1] < 2) & ((r[0] < 2) | (r[0] < 4) & (r[6] < 9))
 }

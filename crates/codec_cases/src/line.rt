@@ -1,16 +1,16 @@
 // Answers as lines of text, each put at the end of a line.
 ghost use Rattle.show.specs.Lines.{Adds};
 ghost use Rattle.codec_cases.specs.Lines.{signedText, estimatesText, voltagesText, batteryText, flagsText, reportText, requestText, reportLine, requestLine, builtLine};
-use codec::frame::Answer;
-use codec::frame::Built;
-use codec::report::Battery;
-use codec::report::ErrorFlags;
-use codec::report::Estimates;
-use codec::report::Report;
-use codec::report::ReportReading;
-use codec::report::Voltages;
-use codec::request::Request;
-use codec::request::RequestReading;
+use codec_pages::frame::Built;
+use codec_pages::report::Battery;
+use codec_pages::report::ErrorFlags;
+use codec_pages::report::Estimates;
+use codec_pages::report::Report;
+use codec_pages::report::ReportReading;
+use codec_pages::report::Voltages;
+use codec_pages::request::Request;
+use codec_pages::request::RequestReading;
+use refusal::Acceptance;
 use show::Line;
 use show::decimal;
 use show::ended;
@@ -114,10 +114,10 @@ pub fn request(l: Line, r: RequestReading) -> Line
 pub fn built(l: Line, b: Built) -> Line
     ensures { λ x. ⌜ Adds l (builtLine b) x ⌝ }
 {
-    let answer = b.answer;
+    let acceptance = b.acceptance;
     let f = b.frame;
-    match answer {
-        Answer::Accepted => ended(frame(l, f)),
-        Answer::Refused(why) => ended(refused(l, why)),
+    match acceptance {
+        Acceptance::Accepted => ended(frame(l, f)),
+        Acceptance::Refused(why) => ended(refused(l, why)),
     }
 }

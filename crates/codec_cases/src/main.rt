@@ -5,14 +5,14 @@ ghost use Rattle.codec_cases.specs.Answers.{answerLine};
 mod ask;
 mod line;
 
-use codec::build::build_report;
-use codec::build::build_request;
-use codec::read::read_report;
-use codec::read::read_request;
+use codec_build::report::build_report;
+use codec_build::request::build_request;
+use codec_read::report::read_report;
+use codec_read::request::read_request;
 use door::LastWord;
 use door::turn::Turn;
-use door::turn::answered;
 use door::turn::begin;
+use door::turn::next_if;
 use show::Line;
 use show::empty;
 use show::written;
@@ -34,7 +34,7 @@ fn answer(l: Line, r: [u8; 20]) -> Line
 
 fn answer_known(r: [u8; 20]) -> Turn {
     if ask::known(r) {
-        return answered(written(answer(empty(), r)));
+        return next_if(written(answer(empty(), r)));
     }
     Turn::Over(LastWord::Refused)
 }

@@ -4,7 +4,6 @@ use mathlib.Core.Path.{_≡_, refl, sym}
 use mathlib.Core.Bool.{Bool, true, false, not, _&&_}
 use lib.Dec.{eqb}
 use Rattle.door.specs.declared.LastWord.the-variants.{Complete}
-use Rattle.door.specs.declared.turn.Turn.{Turn}
 use Rattle.door.specs.declared.turn.Turn.the-variants.{Over}
 use Rattle.door.specs.Turns.{begun, goneOn}
 

@@ -18,6 +18,6 @@ begun true n whole = Over Unread
 begun false n whole = cond (eqb n 0) (Over Complete) (goneOn false n whole)
 
 -- after an answer, by whether it was written
-abbrev pub answered : Bool → Turn
-answered true = Next
-answered false = Over Cut
+abbrev pub nextIf : Bool → Turn
+nextIf true = Next
+nextIf false = Over Cut

@@ -1,7 +1,7 @@
 // Programs that answer a row of questions: whether there is a next one, and with which word they end where there is
 // none.
 ghost use mathlib.Core.Path.{_≡_};
-ghost use Rattle.door.specs.Turns.{begun, goneOn, answered as answeredBy};
+ghost use Rattle.door.specs.Turns.{begun, goneOn, nextIf};
 use crate::Input;
 use crate::LastWord;
 
@@ -37,8 +37,8 @@ pub fn go_on(input: Input, whole: usize) -> Turn
 }
 
 // After an answer: nothing follows one that could not be written.
-pub fn answered(written: bool) -> Turn
-    ensures { λ r. ⌜ r ≡ answeredBy written ⌝ }
+pub fn next_if(written: bool) -> Turn
+    ensures { λ r. ⌜ r ≡ nextIf written ⌝ }
 {
     if written {
         return Turn::Next;

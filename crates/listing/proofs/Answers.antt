@@ -8,8 +8,8 @@ use lib.ListN.{length, getD}
 use borrow.Author.Tests.{le-ltb}
 use Rattle.refusal.specs.declared.Refusal.{Refusal}
 use Rattle.refusal.specs.declared.Refusal.the-variants.{ShortBuffer}
-use Rattle.codec.specs.declared.frame.Answer.{Answer}
-use Rattle.codec.specs.declared.frame.Answer.the-variants.{Accepted, Refused}
+use Rattle.refusal.specs.declared.Acceptance.{Acceptance}
+use Rattle.refusal.specs.declared.Acceptance.the-variants.{Accepted, Refused}
 use Rattle.text.specs.declared.written.Written.{Written}
 use Rattle.text.specs.declared.written.Written.the-variants.{Text, Refused as NotListed}
 use Rattle.text.specs.Put.{Put, place, lastPlace}
@@ -42,10 +42,10 @@ room-enough s bytes a room h = let l = listing-length s bytes a in le-ltb room (
 -- ---- the answer, and what the buffer holds
 
 pub log-refused : (s held : List ℕ) (why : Refusal) → checked s ≡ Refused why → ListingAnswered s held (NotListed why) held
-log-refused s held why a = subst (λ (x : Answer). AnsweredBy x s held (NotListed why) held) (sym a) (record { answered = refl; holds = refl })
+log-refused s held why a = subst (λ (x : Acceptance). AnsweredBy x s held (NotListed why) held) (sym a) (record { answered = refl; holds = refl })
 
 fitted-answered : (s held after : List ℕ) (r : Written) → checked s ≡ Accepted → Fitted (listingOf s) held r after → ListingAnswered s held r after
-fitted-answered s held after r a x = subst (λ (y : Answer). AnsweredBy y s held r after) (sym a) x
+fitted-answered s held after r a x = subst (λ (y : Acceptance). AnsweredBy y s held r after) (sym a) x
 
 pub short-refused : (s held : List ℕ) → checked s ≡ Accepted → isShort s (length held) ≡ true → ListingAnswered s held (NotListed ShortBuffer) held
 short-refused s held a t = fitted-answered s held held (NotListed ShortBuffer) a (too-short (listingOf s) held t)
@@ -55,11 +55,11 @@ listed s held after r bytes a t p = fitted-answered s held after (Text r) a (tex
 
 -- ---- an answer that is had
 
-pub answered-by : (a : Answer) (s held after : List ℕ) (r : Written) → AnsweredBy a s held r after → r ≡ answerBy a s (length held)
+pub answered-by : (a : Acceptance) (s held after : List ℕ) (r : Written) → AnsweredBy a s held r after → r ≡ answerBy a s (length held)
 answered-by Accepted s held after r x = x .answered
 answered-by (Refused why) s held after r x = x .answered
 
-text-by : (a : Answer) (s held after : List ℕ) (n : ℕ) → AnsweredBy a s held (Text n) after → (a ≡ Accepted) × Fitted (listingOf s) held (Text n) after
+text-by : (a : Acceptance) (s held after : List ℕ) (n : ℕ) → AnsweredBy a s held (Text n) after → (a ≡ Accepted) × Fitted (listingOf s) held (Text n) after
 text-by Accepted s held after n x = (refl, x)
 text-by (Refused why) s held after n x = text-not-refused n why (x .answered)
 
@@ -67,7 +67,7 @@ text-by (Refused why) s held after n x = text-not-refused n why (x .answered)
 pub text-fitted : (s held after : List ℕ) (n : ℕ) → ListingAnswered s held (Text n) after → (checked s ≡ Accepted) × Fitted (listingOf s) held (Text n) after
 text-fitted s held after n x = text-by (checked s) s held after n x
 
-same-by : (a : Answer) (s held after : List ℕ) (why : Refusal) → AnsweredBy a s held (NotListed why) after → after ≡ held
+same-by : (a : Acceptance) (s held after : List ℕ) (why : Refusal) → AnsweredBy a s held (NotListed why) after → after ≡ held
 same-by Accepted s held after why x = fitted-same (listingOf s) held after why x
 same-by (Refused w) s held after why x = x .holds
 

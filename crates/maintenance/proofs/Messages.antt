@@ -9,8 +9,8 @@ use lib.ListN.{getD}
 use borrow.Author.Tests.{eqb-true, eq-eqb, ne-eqb, le-leb, leb-true}
 use native.Mathlib.Omega.{arith}
 use Rattle.words.proofs.Tests.{decided, and-left, and-right, and-false}
-use Rattle.codec.specs.declared.frame.Frame.{Frame}
-use Rattle.codec.specs.Table.{part, numberAt}
+use Rattle.codec_pages.specs.declared.frame.Frame.{Frame}
+use Rattle.codec_pages.specs.Table.{part, numberAt}
 use Rattle.maintenance.specs.declared.setting.Setting.{Setting}
 use Rattle.maintenance.specs.declared.setting.Setting.the-variants.{ReceiveId, TransmitId, Speed, Voltage, WarningLevel, FaultLevel}
 use Rattle.maintenance.specs.declared.setting.Named.{Named}

@@ -4,13 +4,13 @@ use mathlib.Core.Path.{_≡_, refl, ap}
 use mathlib.Core.List.{List, [], _∷_}
 use lib.Dec.{lit≤}
 use lib.ListN.{getD}
-use borrow.Author.Tests.{le-ltb}
 use native.Mathlib.Omega.{arith}
 use Rattle.words.specs.declared.Order.the-variants.{Big}
 use Rattle.words.specs.Words.{Bytes}
 use Rattle.words.proofs.Words.{bytes-word}
-use Rattle.codec.specs.Table.{part}
-use Rattle.codec.specs.Building.{buildReport}
+use Rattle.codec_pages.specs.declared.rows.Kind.the-variants.{Sim101}
+use Rattle.codec_pages.specs.Table.{part, numberAt}
+use Rattle.codec_pages.proofs.Promise.{promise as codec}
 use Rattle.maintenance.specs.Messages.{says, serialPlace, serialReport}
 use Rattle.maintenance.specs.Promise.{SerialWords}
 
@@ -26,9 +26,8 @@ four-bytes bs place h = (
 )
 
 word : (transmit : ℕ) (serial : List ℕ) → transmit ≤ 0x1FFFFFFF → Bytes serial → (mux place : ℕ) → 0x01 ≤ mux → mux ≤ 0x0B → serialPlace mux ≡ place → serialReport transmit serial mux ≡ says transmit (mux ∷ part serial place 4)
-unfolding buildReport
 word transmit serial h held mux place low high p =
-    rw (le-ltb 0x1FFFFFFF transmit h, le-ltb mux 0x01 low, le-ltb 0x0B mux high, p)
+    rw (p, codec .words-built Sim101 transmit mux (numberAt serial place 4) h low high)
     (ap (λ (bs : List ℕ). says transmit (mux ∷ bs)) (bytes-word Big (part serial place 4) (four-bytes serial place held)))
 
 pub serial-words : (transmit : ℕ) (serial : List ℕ) → transmit ≤ 0x1FFFFFFF → Bytes serial → SerialWords transmit serial

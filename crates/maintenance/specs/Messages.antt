@@ -7,12 +7,12 @@ use lib.Dec.{eqb, leb}
 use lib.ListN.{getD}
 use Rattle.words.specs.declared.Order.the-variants.{Big}
 use Rattle.words.specs.Words.{bytesOf}
-use Rattle.codec.specs.declared.frame.Frame.{Frame}
-use Rattle.codec.specs.declared.rows.Kind.the-variants.{Sim101}
-use Rattle.codec.specs.declared.report.Report.the-variants.{Word}
-use Rattle.codec.specs.Frames.{bodyOf, frameOf, blank}
-use Rattle.codec.specs.Table.{part, numberAt}
-use Rattle.codec.specs.Building.{buildReport}
+use Rattle.codec_pages.specs.declared.frame.Frame.{Frame}
+use Rattle.codec_pages.specs.declared.rows.Kind.the-variants.{Sim101}
+use Rattle.codec_pages.specs.declared.report.Report.the-variants.{Word}
+use Rattle.codec_pages.specs.Frames.{bodyOf, frameOf, blank}
+use Rattle.codec_pages.specs.Table.{part, numberAt}
+use Rattle.codec_pages.specs.Building.{buildReport}
 use Rattle.maintenance.specs.declared.setting.Setting.{Setting}
 use Rattle.maintenance.specs.declared.setting.Named.{Named}
 use Rattle.maintenance.specs.declared.setting.Settings.{Settings}

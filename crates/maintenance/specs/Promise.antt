@@ -5,8 +5,8 @@ use mathlib.Core.Bool.{true, false}
 use mathlib.Core.List.{List, _∷_}
 use mathlib.Core.Logic.{_↔_, _⊎_}
 use Rattle.words.specs.Words.{Bytes}
-use Rattle.codec.specs.declared.frame.Frame.{Frame}
-use Rattle.codec.specs.Table.{part, numberAt}
+use Rattle.codec_pages.specs.declared.frame.Frame.{Frame}
+use Rattle.codec_pages.specs.Table.{part, numberAt}
 use Rattle.maintenance.specs.declared.setting.Setting.{Setting}
 use Rattle.maintenance.specs.declared.setting.Setting.the-variants.{TransmitId}
 use Rattle.maintenance.specs.declared.setting.Settings.{Settings}

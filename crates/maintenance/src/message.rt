@@ -1,6 +1,6 @@
 // What a frame says to the monitor, and what the monitor says back.
 ghost use mathlib.Core.Path.{_≡_};
-ghost use Rattle.codec.specs.Frames.{frameOf};
+ghost use Rattle.codec_pages.specs.Frames.{frameOf};
 ghost use Rattle.maintenance.specs.Messages.{
   isUnlock,
   isCommit,
@@ -25,11 +25,11 @@ use crate::setting::Named;
 use crate::setting::Setting;
 use crate::setting::code_of;
 use crate::setting::setting_of;
-use codec::build::build_report;
-use codec::frame::Body;
-use codec::frame::Frame;
-use codec::report::Report;
-use codec::rows::Kind;
+use codec_build::report::build_report;
+use codec_pages::frame::Body;
+use codec_pages::frame::Frame;
+use codec_pages::report::Report;
+use codec_pages::rows::Kind;
 use words::Order;
 use words::word::bytes32;
 use words::word::word32;

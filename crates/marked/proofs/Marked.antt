@@ -1,8 +1,8 @@
 -- The marked cases hold, by computation. Assumes nothing.
 use mathlib.Core.Path.{refl}
-use Rattle.codec.specs.Table.{lineOf}
-use Rattle.codec.specs.Reports.{readReport}
-use Rattle.codec.specs.Requests.{readRequest}
+use Rattle.codec_pages.specs.Table.{entryOf}
+use Rattle.codec_pages.specs.Reports.{readReport}
+use Rattle.codec_pages.specs.Requests.{readRequest}
 use Rattle.maintenance.specs.Messages.{message}
 use Rattle.rules.specs.History.{storedAfter}
 use Rattle.text.specs.Figures.{hexadecimal, decimalUpTo}
@@ -15,7 +15,7 @@ use Rattle.listing.specs.Listing.{linesOf, listingOf}
 use Rattle.marked.specs.Marked.{Marked}
 
 pub marked : Marked
-unfolding lineOf readReport readRequest message storedAfter hexadecimal decimalUpTo isLaidOut blockIn isLegal recordIn zeros isRecord historyOf recordsAnswer spaced linesOf listingOf
+unfolding entryOf readReport readRequest message storedAfter hexadecimal decimalUpTo isLaidOut blockIn isLegal recordIn zeros isRecord historyOf recordsAnswer spaced linesOf listingOf
 marked = (
   refl,
   (

@@ -2,19 +2,19 @@
 use Prim.Native.Nat.{ℕ}
 use mathlib.Core.Path.{_≡_}
 use mathlib.Core.List.{List, [], _∷_}
-use Rattle.refusal.specs.Conditions.{Told, answer}
-use Rattle.codec.specs.declared.rows.Kind.{Kind}
-use Rattle.codec.specs.declared.frame.Frame.{Frame}
-use Rattle.codec.specs.Answers.{Values, toldReport, toldRequest}
-use Rattle.codec.specs.Reports.{readReport}
-use Rattle.codec.specs.Requests.{readRequest}
+use Rattle.refusal.specs.Conditions.{Told, good}
+use Rattle.codec_pages.specs.declared.rows.Kind.{Kind}
+use Rattle.codec_pages.specs.declared.frame.Frame.{Frame}
+use Rattle.codec_pages.specs.Told.{Values, toldReport, toldRequest}
+use Rattle.codec_pages.specs.Reports.{readReport}
+use Rattle.codec_pages.specs.Requests.{readRequest}
 use Rattle.maintenance.specs.declared.setting.Settings.{Settings}
 use Rattle.maintenance.specs.Messages.{answerTo}
 use Rattle.rules.specs.Events.{Event, PowerOn}
 use Rattle.rules.specs.History.{storedAfter, replyTo}
 use Rattle.rules.specs.Given.{Given, givenReply}
-use Rattle.monitor.specs.Bench.{answeredTo, after}
-use Rattle.monitor.specs.Answers.{toldOutcome}
+use Rattle.monitor.specs.Bench.{outcomeOf, after}
+use Rattle.monitor.specs.Told.{toldOutcome}
 use Rattle.listing.specs.Output.{outputOf}
 
 pub data Case : Type 0 where
@@ -43,12 +43,12 @@ shownBy says stores h (e ∷ es) = record { replies = says h e ∷ shownBy says 
 
 abbrev pub allAccepted : List Given → List (Told Given)
 allAccepted [] = []
-allAccepted (g ∷ gs) = answer g ∷ allAccepted gs
+allAccepted (g ∷ gs) = good g ∷ allAccepted gs
 
 -- the monitor on the bench shows it, and so does the look-back over the events
 pub record Runs (p : PowerOn) (es : List Event) (due : Shown) : Type 0 where
-  pub on-the-bench : shownBy (λ h e. toldOutcome (answeredTo e (after p h))) (λ h. after p h .monitor .stored) [] es ≡ due
-  pub looking-back : shownBy (λ h e. answer (givenReply (replyTo p h e))) (λ h. storedAfter p h) [] es ≡ due
+  pub on-the-bench : shownBy (λ h e. toldOutcome (outcomeOf e (after p h))) (λ h. after p h .monitor .stored) [] es ≡ due
+  pub looking-back : shownBy (λ h e. good (givenReply (replyTo p h e))) (λ h. storedAfter p h) [] es ≡ due
 
 -- ---- what must come out comes out
 
@@ -56,8 +56,8 @@ abbrev pub Holds : Case → Type 0
 Holds (replays log text) = outputOf log ≡ text
 Holds (runs p es said stored) = Runs p es (record { replies = allAccepted said; stored = stored })
 Holds (answers challenge bytes) = answerTo challenge ≡ bytes
-Holds (reports kind expected f values) = toldReport (readReport kind expected f) ≡ answer values
-Holds (requests kind expected f values) = toldRequest (readRequest kind expected f) ≡ answer values
+Holds (reports kind expected f values) = toldReport (readReport kind expected f) ≡ good values
+Holds (requests kind expected f values) = toldRequest (readRequest kind expected f) ≡ good values
 
 abbrev pub AllHold : List Case → Type 0
 AllHold [] = Unit

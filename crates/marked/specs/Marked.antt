@@ -6,8 +6,8 @@ use Prim.Native.String.{String}
 use mathlib.Core.Bool.{Bool, true, false}
 use mathlib.Core.List.{List, [], _∷_, _++_}
 use lib.IntN.{pos}
-use Rattle.codec.specs.declared.rows.Kind.the-variants.{Sim100, Sim101}
-use Rattle.codec.specs.declared.frame.Frame.{Frame}
+use Rattle.codec_pages.specs.declared.rows.Kind.the-variants.{Sim100, Sim101}
+use Rattle.codec_pages.specs.declared.frame.Frame.{Frame}
 use Rattle.maintenance.specs.declared.setting.Settings.{Settings}
 use Rattle.rules.specs.Events.{Event, frameEvent, PowerOn}
 use Rattle.rules.specs.Given.{Given, reply}

@@ -4,23 +4,23 @@ use mathlib.Core.Path.{_≡_, refl}
 use mathlib.Core.Bool.{Bool, true, false, not, cond}
 use mathlib.Core.List.{[], _∷_}
 use Rattle.refusal.specs.declared.Refusal.the-variants.{OverLimits, EarlyStamp, NotLegal}
-use Rattle.refusal.specs.Conditions.{_when_, First, None, Answers}
-use Rattle.refusal.proofs.Conditions.{pick, answers, first-not-none}
-use Rattle.codec.specs.declared.frame.Answer.the-variants.{Accepted, Refused}
-use Rattle.rules.specs.declared.time.Stamp.{Stamp}
-use Rattle.rules.specs.declared.time.Ticks.{Ticks}
+use Rattle.refusal.specs.Conditions.{_when_, First, None, GivenExactly}
+use Rattle.refusal.proofs.Conditions.{pick, given-exactly, first-not-none}
+use Rattle.refusal.specs.declared.Acceptance.the-variants.{Accepted, Refused}
+use Rattle.time.specs.declared.Stamp.{Stamp}
+use Rattle.time.specs.declared.Ticks.{Ticks}
 use Rattle.rules.specs.declared.unit.Turn.{Turn}
 use Rattle.monitor.specs.declared.bench.Bench.{Bench}
 use Rattle.monitor.specs.declared.bench.Outcome.{Outcome}
 use Rattle.monitor.specs.declared.bench.UptimeReading.the-variants.{Read as Ticked, Refused as NotTicked}
-use Rattle.rules.specs.Times.{earlier}
+use Rattle.time.specs.Times.{earlier}
 use Rattle.maintenance.specs.Settings.{accepted}
 use Rattle.maintenance.specs.Messages.{quiet as noReply}
 use Rattle.rules.specs.Rules.{woken, uptimeOf, step}
 use Rattle.rules.specs.Events.{Event, PowerOn, beyond, stampOf}
-use Rattle.monitor.specs.Bench.{early, refusedBy, acceptedAt, answeredTo, poweredOn, uptimeAsked, benchAt, after}
+use Rattle.monitor.specs.Bench.{early, refusedBy, acceptedAt, outcomeOf, poweredOn, uptimeAsked, benchAt, after}
 use Rattle.rules.specs.Given.{on, ticks, givenReply}
-use Rattle.monitor.specs.Answers.{toldOutcome, toldPowerOn, toldUptime, eventConditions, powerOnConditions, uptimeConditions}
+use Rattle.monitor.specs.Told.{toldOutcome, toldPowerOn, toldUptime, eventConditions, powerOnConditions, uptimeConditions}
 use Rattle.monitor.specs.Promise.{Handles, PowersOn}
 use Rattle.rules.proofs.Rules.{fresh}
 
@@ -47,21 +47,21 @@ pub handles : (e : Event) (b : Bench) → Handles e b
 handles e b =
     let t = step e (b .monitor) in
     record {
-      answers = answers (toldOutcome (answeredTo e b)) (eventConditions e b) (givenReply (t .reply)) (told b (stampOf e) t (beyond e) (early e b));
+      exactly = given-exactly (toldOutcome (outcomeOf e b)) (eventConditions e b) (givenReply (t .reply)) (told b (stampOf e) t (beyond e) (early e b));
       same = same b (stampOf e) t (beyond e) (early e b);
       next = next b (stampOf e) t (beyond e) (early e b);
     }
 
 -- ---- power-on, and the uptime question
 
-on-told : (x : Bool) (b c : Bench) → toldPowerOn (cond x (record { answer = Accepted; bench = b }) (record { answer = Refused NotLegal; bench = c })) ≡ pick ((8 when not x) ∷ []) on
+on-told : (x : Bool) (b c : Bench) → toldPowerOn (cond x (record { acceptance = Accepted; bench = b }) (record { acceptance = Refused NotLegal; bench = c })) ≡ pick ((8 when not x) ∷ []) on
 on-told true b c = refl
 on-told false b c = refl
 
 pub powers-on : (p : PowerOn) → PowersOn p
 powers-on p =
     record {
-      answers = answers (toldPowerOn (poweredOn (p .at) (p .serial) (p .rating) (p .settings))) (powerOnConditions p) on (on-told (accepted (p .rating) (p .settings)) _ _);
+      exactly = given-exactly (toldPowerOn (poweredOn (p .at) (p .serial) (p .rating) (p .settings))) (powerOnConditions p) on (on-told (accepted (p .rating) (p .settings)) _ _);
       fresh = λ a. rw (after, a) (fresh (p .serial) (p .rating) (p .settings) (p .at));
       last = λ a. rw (after, a) refl;
     }
@@ -70,7 +70,7 @@ ticks-told : (x : Bool) (t : Ticks) → toldUptime (cond x (NotTicked EarlyStamp
 ticks-told true t = refl
 ticks-told false t = refl
 
-pub uptime-told : (at : Stamp) (b : Bench) → Answers (toldUptime (uptimeAsked at b)) (uptimeConditions at b) (ticks ((at .0 - woken at (b .monitor) .start .0) / 10))
+pub uptime-told : (at : Stamp) (b : Bench) → GivenExactly (toldUptime (uptimeAsked at b)) (uptimeConditions at b) (ticks ((at .0 - woken at (b .monitor) .start .0) / 10))
 uptime-told at b =
-    answers (toldUptime (uptimeAsked at b)) (uptimeConditions at b) (ticks ((at .0 - woken at (b .monitor) .start .0) / 10))
+    given-exactly (toldUptime (uptimeAsked at b)) (uptimeConditions at b) (ticks ((at .0 - woken at (b .monitor) .start .0) / 10))
     (ticks-told (earlier at (b .last)) (uptimeOf at (b .monitor)))

@@ -7,20 +7,20 @@ use borrow.Author.Tests.{le-ltb, ltb-false}
 use Rattle.words.proofs.Tests.{decided, false-true}
 use Rattle.refusal.specs.declared.Refusal.{Refusal}
 use Rattle.refusal.specs.declared.Refusal.the-variants.{OverLimits, EarlyStamp, NotLegal}
-use Rattle.codec.specs.declared.frame.Answer.{Answer}
-use Rattle.codec.specs.declared.frame.Answer.the-variants.{Accepted, Refused}
+use Rattle.refusal.specs.declared.Acceptance.{Acceptance}
+use Rattle.refusal.specs.declared.Acceptance.the-variants.{Accepted, Refused}
 use Rattle.maintenance.specs.Settings.{accepted}
 use Rattle.maintenance.specs.Messages.{quiet}
 use Rattle.monitor.specs.declared.bench.Bench.{Bench}
 use Rattle.monitor.specs.declared.bench.PoweredOn.{PoweredOn}
 use Rattle.monitor.specs.declared.bench.Outcome.{Outcome}
 use Rattle.rules.specs.Events.{Event, PowerOn, stampOf, beyond, lastStamp, Run}
-use Rattle.monitor.specs.Bench.{early, answeredTo, acceptedAt, poweredOn, benchAt, after}
+use Rattle.monitor.specs.Bench.{early, outcomeOf, acceptedAt, poweredOn, benchAt, after}
 use Rattle.rules.specs.Rules.{step, unitAfter}
 use Rattle.monitor.specs.Reached.{Reached, Added, EventAnswered, PowerOnAnswered}
 use Rattle.rules.proofs.History.{unit-stored, unit-reply}
 
-abbrev isAccepted : Answer → Bool
+abbrev isAccepted : Acceptance → Bool
 isAccepted Accepted = true
 isAccepted (Refused why) = false
 
@@ -29,22 +29,22 @@ not-both why e = false-true (sym (ap isAccepted e))
 
 -- ---- what stands on the bench after a run
 
-in-order : (p : PowerOn) (e : Event) (h : List Event) → Run p (e ∷ h) → answeredTo e (benchAt (lastStamp p h) (unitAfter p h)) ≡ acceptedAt (stampOf e) (step e (unitAfter p h))
+in-order : (p : PowerOn) (e : Event) (h : List Event) → Run p (e ∷ h) → outcomeOf e (benchAt (lastStamp p h) (unitAfter p h)) ≡ acceptedAt (stampOf e) (step e (unitAfter p h))
 in-order p e h r = rw (r .0, le-ltb (stampOf e .0) (lastStamp p h .0) (r .1 .0)) refl
 
 pub bench-after : (p : PowerOn) (h : List Event) → Run p h → after p h ≡ benchAt (lastStamp p h) (unitAfter p h)
 bench-after p [] a = rw (after, a) refl
 bench-after p (e ∷ h) r =
-    ap (λ (b : Bench). answeredTo e b .bench) (bench-after p h (r .1 .1)) ∙ ap (λ (o : Outcome). o .bench) (in-order p e h r)
+    ap (λ (b : Bench). outcomeOf e b .bench) (bench-after p h (r .1 .1)) ∙ ap (λ (o : Outcome). o .bench) (in-order p e h r)
 
 -- a run's next event is accepted
-pub accepted-next : (p : PowerOn) (e : Event) (h : List Event) → Run p (e ∷ h) → answeredTo e (after p h) ≡ acceptedAt (stampOf e) (step e (unitAfter p h))
-accepted-next p e h r = ap (answeredTo e) (bench-after p h (r .1 .1)) ∙ in-order p e h r
+pub accepted-next : (p : PowerOn) (e : Event) (h : List Event) → Run p (e ∷ h) → outcomeOf e (after p h) ≡ acceptedAt (stampOf e) (step e (unitAfter p h))
+accepted-next p e h r = ap (outcomeOf e) (bench-after p h (r .1 .1)) ∙ in-order p e h r
 
 -- ---- an event
 
 -- an event that is accepted goes on with every run that reaches the bench
-pub run-further : (e : Event) (b : Bench) → answeredTo e b .answer ≡ Accepted → (p : PowerOn) (h : List Event) → Reached p h b → Run p (e ∷ h)
+pub run-further : (e : Event) (b : Bench) → outcomeOf e b .acceptance ≡ Accepted → (p : PowerOn) (h : List Event) → Reached p h b → Run p (e ∷ h)
 run-further e b a p h r =
     decided (beyond e)
     (λ x. not-both OverLimits (rw x at a))
@@ -55,17 +55,17 @@ run-further e b a p h r =
       (subst (λ (c : Bench). c .last .0 ≤ stampOf e .0) (r .bench ∙ bench-after p h (r .run)) (ltb-false (stampOf e .0) (b .last .0) y), r .run),
     )))
 
-added : (e : Event) (b : Bench) → answeredTo e b .answer ≡ Accepted → (p : PowerOn) (h : List Event) → Reached p h b → Added p h e (answeredTo e b)
+added : (e : Event) (b : Bench) → outcomeOf e b .acceptance ≡ Accepted → (p : PowerOn) (h : List Event) → Reached p h b → Added p h e (outcomeOf e b)
 added e b a p h r =
     let run : Run p (e ∷ h) = run-further e b a p h r in
-    let now : answeredTo e b ≡ acceptedAt (stampOf e) (step e (unitAfter p h)) = ap (answeredTo e) (r .bench) ∙ accepted-next p e h run in
+    let now : outcomeOf e b ≡ acceptedAt (stampOf e) (step e (unitAfter p h)) = ap (outcomeOf e) (r .bench) ∙ accepted-next p e h run in
     record {
-      reached = record { run = run; bench = ap (λ (c : Bench). answeredTo e c .bench) (r .bench) };
+      reached = record { run = run; bench = ap (λ (c : Bench). outcomeOf e c .bench) (r .bench) };
       stored = ap (λ (o : Outcome). o .bench .monitor .stored) now ∙ unit-stored p (e ∷ h) run;
       reply = ap (λ (o : Outcome). o .reply) now ∙ unit-reply p h e run;
     }
 
-same : (e : Event) (b : Bench) (why : Refusal) → answeredTo e b .answer ≡ Refused why → (answeredTo e b .bench ≡ b) × (answeredTo e b .reply ≡ quiet)
+same : (e : Event) (b : Bench) (why : Refusal) → outcomeOf e b .acceptance ≡ Refused why → (outcomeOf e b .bench ≡ b) × (outcomeOf e b .reply ≡ quiet)
 same e b why a =
     decided (beyond e)
     (λ x. rw x (refl, refl))
@@ -74,13 +74,13 @@ same e b why a =
     (λ y. not-both why (sym (rw (x, y) at a))))
 
 -- what meets the rules' outcome meets the rest
-pub event-answered : (e : Event) (b : Bench) (o : Outcome) → o ≡ answeredTo e b → EventAnswered e b o
+pub event-answered : (e : Event) (b : Bench) (o : Outcome) → o ≡ outcomeOf e b → EventAnswered e b o
 event-answered e b o q =
     subst (EventAnswered e b) (sym q) (record { outcome = refl; accepted = added e b; refused = same e b })
 
 -- ---- power-on
 
-pub run-on : (p : PowerOn) (test : Bool) → accepted (p .rating) (p .settings) ≡ test → poweredOn (p .at) (p .serial) (p .rating) (p .settings) .answer ≡ Accepted → Run p []
+pub run-on : (p : PowerOn) (test : Bool) → accepted (p .rating) (p .settings) ≡ test → poweredOn (p .at) (p .serial) (p .rating) (p .settings) .acceptance ≡ Accepted → Run p []
 run-on p true t a = t
 run-on p false t a = not-both NotLegal (rw t at a)
 

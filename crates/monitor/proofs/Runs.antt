@@ -6,17 +6,17 @@ use mathlib.Core.List.{List, [], _∷_}
 use borrow.Author.Tests.{ltb-false}
 use Rattle.words.proofs.Tests.{decided, false-true}
 use Rattle.refusal.specs.declared.Refusal.{Refusal}
-use Rattle.codec.specs.declared.frame.Answer.{Answer}
-use Rattle.codec.specs.declared.frame.Answer.the-variants.{Accepted, Refused}
+use Rattle.refusal.specs.declared.Acceptance.{Acceptance}
+use Rattle.refusal.specs.declared.Acceptance.the-variants.{Accepted, Refused}
 use Rattle.maintenance.specs.Settings.{legal}
 use Rattle.maintenance.proofs.Settings.{accepted-parts, level-some, voltage-below}
-use Rattle.rules.specs.declared.time.Stamp.{Stamp}
+use Rattle.time.specs.declared.Stamp.{Stamp}
 use Rattle.rules.specs.declared.unit.Monitor.{Monitor}
 use Rattle.monitor.specs.declared.bench.Bench.{Bench}
-use Rattle.rules.specs.Times.{earlier}
+use Rattle.time.specs.Times.{earlier}
 use Rattle.rules.specs.Rules.{woken}
 use Rattle.rules.specs.Events.{Event, PowerOn, IsAccepted, stampOf, beyond, lastStamp, Run, acceptedOf}
-use Rattle.monitor.specs.Bench.{early, answeredTo, after}
+use Rattle.monitor.specs.Bench.{early, outcomeOf, after}
 use Rattle.rules.specs.History.{storedAfter, replyTo}
 use Rattle.rules.specs.Promise.{OnIdentifier}
 use Rattle.rules.proofs.Promise.{promise as rules}
@@ -36,10 +36,10 @@ accepted-run p a (e ∷ h) =
     (λ y. rw (x, y) (accepted-run p a h))
     (λ y. rw (x, y) (x, (ltb-false (stampOf e .0) (lastStamp p (acceptedOf p h) .0) y, accepted-run p a h))))
 
-refused-over : (e : Event) (b : Bench) → beyond e ≡ true → answeredTo e b .bench ≡ b
+refused-over : (e : Event) (b : Bench) → beyond e ≡ true → outcomeOf e b .bench ≡ b
 refused-over e b x = rw x refl
 
-refused-early : (e : Event) (b : Bench) → beyond e ≡ false → early e b ≡ true → answeredTo e b .bench ≡ b
+refused-early : (e : Event) (b : Bench) → beyond e ≡ false → early e b ≡ true → outcomeOf e b .bench ≡ b
 refused-early e b x y = rw (x, y) refl
 
 accepted-same : (p : PowerOn) → IsAccepted p → (h : List Event) → after p h ≡ after p (acceptedOf p h)
@@ -52,18 +52,18 @@ accepted-same p a (e ∷ h) =
     (λ x. let left : acceptedOf p (e ∷ h) ≡ g = rw x refl in refused-over e (after p h) x ∙ (before ∙ ap (after p) (sym left)))
     (λ x. decided (earlier (stampOf e) (lastStamp p g))
     (λ y. let left : acceptedOf p (e ∷ h) ≡ g = rw (x, y) refl in refused-early e (after p h) x (last ∙ y) ∙ (before ∙ ap (after p) (sym left)))
-    (λ y. let kept : acceptedOf p (e ∷ h) ≡ (e ∷ g) = rw (x, y) refl in ap (λ (b : Bench). answeredTo e b .bench) before ∙ ap (after p) (sym kept)))
+    (λ y. let kept : acceptedOf p (e ∷ h) ≡ (e ∷ g) = rw (x, y) refl in ap (λ (b : Bench). outcomeOf e b .bench) before ∙ ap (after p) (sym kept)))
 
 -- ---- replies
 
 -- an event of a run is answered from the history, and a refused one not at all
-answered-on : (p : PowerOn) (h : List Event) → Run p h → ((e : Event) → OnIdentifier (storedAfter p h .transmit) (replyTo p h e)) → (e : Event) → OnIdentifier (storedAfter p h .transmit) (answeredTo e (after p h) .reply)
+answered-on : (p : PowerOn) (h : List Event) → Run p h → ((e : Event) → OnIdentifier (storedAfter p h .transmit) (replyTo p h e)) → (e : Event) → OnIdentifier (storedAfter p h .transmit) (outcomeOf e (after p h) .reply)
 answered-on p h r q e =
-    by-answer (answeredTo e (after p h) .answer)
+    by-answer (outcomeOf e (after p h) .acceptance)
     (λ a. subst (OnIdentifier (storedAfter p h .transmit)) (sym (worked-out p h r .reply e (runs-accepted p .event e h r .1 a))) (q e))
-    (λ why a. subst (OnIdentifier (storedAfter p h .transmit)) (sym (event-answered e (after p h) (answeredTo e (after p h)) refl .refused why a .1)) (λ s. false-true (sym s)))
+    (λ why a. subst (OnIdentifier (storedAfter p h .transmit)) (sym (event-answered e (after p h) (outcomeOf e (after p h)) refl .refused why a .1)) (λ s. false-true (sym s)))
   where
-    by-answer : {X : Type 0} (a : Answer) → (a ≡ Accepted → X) → ((why : Refusal) → a ≡ Refused why → X) → X
+    by-answer : {X : Type 0} (a : Acceptance) → (a ≡ Accepted → X) → ((why : Refusal) → a ≡ Refused why → X) → X
     by-answer Accepted yes′ no′ = yes′ refl
     by-answer (Refused why) yes′ no′ = no′ why refl
 
@@ -90,7 +90,7 @@ holds p a h =
       warning = rw stored (level-some (storedAfter p g .warning) (parts .warning));
       fault = rw stored (level-some (storedAfter p g .fault) (parts .fault));
       voltage = rw stored (voltage-below (p .rating) (storedAfter p g) parts);
-      identifier = λ e. rw (stored, ap (λ (b : Bench). answeredTo e b .reply) q) (answered-on p g r (sound .identifier) e);
+      identifier = λ e. rw (stored, ap (λ (b : Bench). outcomeOf e b .reply) q) (answered-on p g r (sound .identifier) e);
       start = λ at l.
           let l′ : lastStamp p g .0 ≤ at .0 = subst (λ (s : Stamp). s .0 ≤ at .0) last l in
           subst (λ (s : Stamp). s .0 ≤ at .0) (sym (ap (λ (b : Bench). woken at (b .monitor) .start) q ∙ worked-out p g r .start at l′)) (bound p g r at l′);

@@ -3,9 +3,9 @@ use mathlib.Core.Path.{_≡_, refl, sym, ap, _∙_}
 use mathlib.Core.List.{List}
 use borrow.Author.Tests.{le-ltb}
 use Rattle.maintenance.specs.Settings.{accepted}
-use Rattle.rules.specs.declared.time.Stamp.{Stamp}
+use Rattle.time.specs.declared.Stamp.{Stamp}
 use Rattle.rules.specs.declared.unit.Monitor.{Monitor}
-use Rattle.rules.specs.Times.{ticksBetween}
+use Rattle.time.specs.Times.{ticksBetween}
 use Rattle.rules.specs.Rules.{woken, unitAfter}
 use Rattle.rules.specs.Events.{Event, PowerOn, lastStamp, Run}
 use Rattle.rules.specs.Demand.{Demand}
@@ -24,7 +24,7 @@ runs-accepted p =
     record {
       power-on = (λ a. rw a refl, run-on p (accepted (p .rating) (p .settings)) refl);
       event = λ e h r. (
-        λ run. ap (λ (o : Outcome). o .answer) (accepted-next p e h run),
+        λ run. ap (λ (o : Outcome). o .acceptance) (accepted-next p e h run),
         λ a. run-further e (after p h) a p h (record { run = r; bench = refl }),
       );
     }

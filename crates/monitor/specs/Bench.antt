@@ -5,8 +5,8 @@ use mathlib.Core.List.{List, [], _∷_}
 use lib.ListN.{replicate}
 use Rattle.refusal.specs.declared.Refusal.{Refusal}
 use Rattle.refusal.specs.declared.Refusal.the-variants.{OverLimits, EarlyStamp, NotLegal}
-use Rattle.codec.specs.declared.frame.Answer.the-variants.{Accepted, Refused}
-use Rattle.rules.specs.declared.time.Stamp.{Stamp}
+use Rattle.refusal.specs.declared.Acceptance.the-variants.{Accepted, Refused}
+use Rattle.time.specs.declared.Stamp.{Stamp}
 use Rattle.maintenance.specs.declared.setting.Settings.{Settings}
 use Rattle.rules.specs.declared.unit.Monitor.{Monitor}
 use Rattle.rules.specs.declared.unit.Turn.{Turn}
@@ -15,7 +15,7 @@ use Rattle.monitor.specs.declared.bench.PoweredOn.{PoweredOn}
 use Rattle.monitor.specs.declared.bench.Outcome.{Outcome}
 use Rattle.monitor.specs.declared.bench.UptimeReading.{UptimeReading}
 use Rattle.monitor.specs.declared.bench.UptimeReading.the-variants.{Read as Ticked, Refused as NotTicked}
-use Rattle.rules.specs.Times.{earlier}
+use Rattle.time.specs.Times.{earlier}
 use Rattle.maintenance.specs.Settings.{accepted}
 use Rattle.maintenance.specs.Messages.{quiet}
 use Rattle.rules.specs.Rules.{startedWith, uptimeOf, step}
@@ -27,14 +27,14 @@ early e b = earlier (stampOf e) (b .last)
 
 -- "state and lent memory are unchanged"
 abbrev pub refusedBy : Refusal → Bench → Outcome
-refusedBy why b = record { answer = Refused why; bench = b; reply = quiet }
+refusedBy why b = record { acceptance = Refused why; bench = b; reply = quiet }
 
 abbrev pub acceptedAt : Stamp → Turn → Outcome
-acceptedAt at t = record { answer = Accepted; bench = record { monitor = t .monitor; last = at }; reply = t .reply }
+acceptedAt at t = record { acceptance = Accepted; bench = record { monitor = t .monitor; last = at }; reply = t .reply }
 
 -- "Event: 1, 7."
-abbrev pub answeredTo : Event → Bench → Outcome
-answeredTo e b =
+abbrev pub outcomeOf : Event → Bench → Outcome
+outcomeOf e b =
     cond (beyond e) (refusedBy OverLimits b)
     (cond (early e b) (refusedBy EarlyStamp b)
     (acceptedAt (stampOf e) (step e (b .monitor))))
@@ -58,8 +58,8 @@ noBench = benchAt zeroStamp (startedWith (replicate 16 0) 0 zeroSettings zeroSta
 abbrev pub poweredOn : Stamp → List ℕ → ℕ → Settings → PoweredOn
 poweredOn at serial rating k =
     cond (accepted rating k)
-    (record { answer = Accepted; bench = benchAt at (startedWith serial rating k at) })
-    (record { answer = Refused NotLegal; bench = noBench })
+    (record { acceptance = Accepted; bench = benchAt at (startedWith serial rating k at) })
+    (record { acceptance = Refused NotLegal; bench = noBench })
 
 -- ---- the uptime question
 
@@ -71,4 +71,4 @@ uptimeAsked at b = cond (earlier at (b .last)) (NotTicked EarlyStamp) (Ticked (u
 -- the bench after power-on and a history of events, the newest first. A refused event leaves it as it was
 abbrev pub after : PowerOn → List Event → Bench
 after p [] = poweredOn (p .at) (p .serial) (p .rating) (p .settings) .bench
-after p (e ∷ h) = answeredTo e (after p h) .bench
+after p (e ∷ h) = outcomeOf e (after p h) .bench

@@ -4,21 +4,21 @@ ghost use mathlib.Core.Path.{_≡_};
 ghost use Rattle.rules.specs.Events.{frameEvent, resetEvent};
 ghost use Rattle.monitor.specs.Bench.{noBench, refusedBy, acceptedAt, uptimeAsked};
 ghost use Rattle.monitor.specs.Reached.{EventAnswered, PowerOnAnswered, powerOnWith};
-use crate::time::is_earlier;
 use crate::turn::start_with;
 use crate::unit;
-use codec::frame::Answer;
-use codec::frame::Frame;
-use codec::frame::over_limits;
+use codec_pages::frame::Frame;
+use codec_rows::limits::over_limits;
 use maintenance::message::Reply;
 use maintenance::message::no_reply;
 use maintenance::setting::Settings;
 use maintenance::setting::is_accepted;
+use refusal::Acceptance;
 use refusal::Refusal;
-use rules::time::Stamp;
-use rules::time::Ticks;
 use rules::unit::Monitor;
 use rules::unit::Turn;
+use time::Stamp;
+use time::Ticks;
+use time::is_earlier;
 
 pub struct Bench {
     monitor: Monitor,
@@ -27,13 +27,13 @@ pub struct Bench {
 
 // A power-on. Where it is refused, there is no monitor.
 pub struct PoweredOn {
-    pub answer: Answer,
+    pub acceptance: Acceptance,
     pub bench: Bench,
 }
 
 // An event's answer, the bench after it, and the reply.
 pub struct Outcome {
-    pub answer: Answer,
+    pub acceptance: Acceptance,
     pub bench: Bench,
     pub reply: Reply,
 }
@@ -83,7 +83,7 @@ pub fn power_on(at: Stamp, serial: [u8; 16], rating: u16, settings: Settings) ->
     let good = is_accepted(rating, settings);
     if good {
         return PoweredOn {
-            answer: Answer::Accepted,
+            acceptance: Acceptance::Accepted,
             bench: Bench {
                 monitor: start_with(serial, rating, settings, at),
                 last: at,
@@ -91,7 +91,7 @@ pub fn power_on(at: Stamp, serial: [u8; 16], rating: u16, settings: Settings) ->
         };
     }
     PoweredOn {
-        answer: Answer::Refused(Refusal::NotLegal),
+        acceptance: Acceptance::Refused(Refusal::NotLegal),
         bench: no_bench(),
     }
 }
@@ -102,7 +102,7 @@ fn refused(b: Bench, why: Refusal) -> Outcome
     ensures { λ r. ⌜ r ≡ refusedBy why b ⌝ }
 {
     Outcome {
-        answer: Answer::Refused(why),
+        acceptance: Acceptance::Refused(why),
         bench: b,
         reply: no_reply(),
     }
@@ -114,7 +114,7 @@ fn accepted(turn: Turn, at: Stamp) -> Outcome
     let monitor = turn.monitor;
     let reply = turn.reply;
     Outcome {
-        answer: Answer::Accepted,
+        acceptance: Acceptance::Accepted,
         bench: Bench { monitor, last: at },
         reply,
     }

@@ -1,6 +1,5 @@
 // The bench monitor: a model of the SIM101 and its maintenance mode, by the rules of the crate below.
 //
-//     time     stamps compared, and the ticks between two of them
 //     turn     what an event may leave
 //     outside  a frame heard outside a session
 //     session  a frame heard in a session
@@ -9,6 +8,5 @@
 pub mod bench;
 mod outside;
 mod session;
-pub mod time;
 mod turn;
 pub mod unit;

@@ -1,22 +1,22 @@
 // A frame heard outside a session.
 ghost use mathlib.Core.Path.{_≡_};
 ghost use Rattle.rules.specs.Rules.{unlocked, answered, serialAsked, outside};
-use crate::time::past_limit;
 use crate::turn::give_up;
 use crate::turn::go_on;
 use crate::turn::ignore;
 use crate::turn::move_to;
-use codec::frame::Frame;
+use codec_pages::frame::Frame;
 use maintenance::message::Message;
 use maintenance::message::ack_reply;
 use maintenance::message::challenge_reply;
 use maintenance::message::is_right;
 use maintenance::message::serial_reply;
-use rules::time::Stamp;
 use rules::unit::Monitor;
 use rules::unit::Pending;
 use rules::unit::Phase;
 use rules::unit::Turn;
+use time::Stamp;
+use time::past_limit;
 
 fn unlock(m: Monitor, at: Stamp) -> Turn
     ensures { λ r. ⌜ r ≡ unlocked at m ⌝ }

@@ -12,9 +12,9 @@ use maintenance::setting::Settings;
 use maintenance::setting::is_legal;
 use maintenance::setting::value_of;
 use maintenance::setting::with_value;
-use rules::time::Stamp;
 use rules::unit::Monitor;
 use rules::unit::Turn;
+use time::Stamp;
 
 // NAK, and the session goes on.
 fn refuse(m: Monitor, draft: Settings, at: Stamp) -> Turn

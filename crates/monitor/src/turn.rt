@@ -5,12 +5,12 @@ use maintenance::message::Reply;
 use maintenance::message::nak_reply;
 use maintenance::message::no_reply;
 use maintenance::setting::Settings;
-use rules::time::Stamp;
 use rules::unit::Monitor;
 use rules::unit::Pending;
 use rules::unit::Phase;
 use rules::unit::Session;
 use rules::unit::Turn;
+use time::Stamp;
 
 // Every start leaves it locked, with no draft and nothing pending.
 pub(crate) fn start_with(serial: [u8; 16], rating: u16, stored: Settings, at: Stamp) -> Monitor

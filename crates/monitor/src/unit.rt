@@ -3,18 +3,18 @@ ghost use mathlib.Core.Path.{_≡_};
 ghost use Rattle.rules.specs.Rules.{woken, heard, met, framed, wasReset, uptimeOf};
 use crate::outside::meet_outside;
 use crate::session::meet_inside;
-use crate::time::past_limit;
-use crate::time::ticks_between;
 use crate::turn::ignore;
 use crate::turn::start_again;
-use codec::frame::Frame;
+use codec_pages::frame::Frame;
 use maintenance::message::message_of;
 use maintenance::setting::Settings;
-use rules::time::Stamp;
-use rules::time::Ticks;
 use rules::unit::Monitor;
 use rules::unit::Phase;
 use rules::unit::Turn;
+use time::Stamp;
+use time::Ticks;
+use time::past_limit;
+use time::ticks_between;
 
 pub fn stored(m: Monitor) -> Settings
     ensures { λ r. ⌜ r ≡ m .stored ⌝ }

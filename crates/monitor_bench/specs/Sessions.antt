@@ -5,20 +5,20 @@ use mathlib.Core.List.{List, [], _∷_}
 use lib.ListN.{getD}
 use Rattle.words.specs.declared.Order.the-variants.{Big}
 use Rattle.words.specs.Words.{wordOf}
-use Rattle.codec.specs.declared.frame.Frame.{Frame}
+use Rattle.codec_pages.specs.declared.frame.Frame.{Frame}
 use Rattle.maintenance.specs.declared.setting.Settings.{Settings}
-use Rattle.rules.specs.declared.time.Stamp.{Stamp}
+use Rattle.time.specs.declared.Stamp.{Stamp}
 use Rattle.monitor.specs.declared.bench.Bench.{Bench}
 use Rattle.monitor.specs.declared.bench.Outcome.{Outcome}
 use Rattle.rules.specs.Events.{frameEvent, resetEvent}
-use Rattle.monitor.specs.Bench.{answeredTo, poweredOn}
+use Rattle.monitor.specs.Bench.{outcomeOf, poweredOn}
 use Rattle.monitor_bench.specs.declared.Run.{Run}
 
 abbrev pub frameOn : ℕ → ℕ → List ℕ → Frame
 frameOn identifier length bytes = record { extended = true; identifier = identifier; length = length; bytes = bytes }
 
-abbrev pub fromHost : ℕ → List ℕ → Frame
-fromHost length bytes = frameOn 0x0A100101 length bytes
+abbrev pub hostFrame : ℕ → List ℕ → Frame
+hostFrame length bytes = frameOn 0x0A100101 length bytes
 
 -- the sum over a reply: its length, and its bytes 0 and 4
 unfoldable pub counts : Outcome → ℕ → Run
@@ -29,7 +29,7 @@ counts o sum =
     }
 
 unfoldable pub plays : Frame → Stamp → Run → Run
-plays f at r = counts (answeredTo (frameEvent at true f) (r .bench)) (r .sum)
+plays f at r = counts (outcomeOf (frameEvent at true f) (r .bench)) (r .sum)
 
 abbrev pub stampAt : ℕ → Stamp
 stampAt ms = record { 0 = ms }
@@ -38,15 +38,15 @@ stampAt ms = record { 0 = ms }
 abbrev pub defaults : Settings
 defaults = record { receive = 0x0A100101; transmit = 0x0A100100; speed = 0x00CA0500; voltage = 0; warning = 500; fault = 100 }
 
-abbrev pub unit : Bench
-unit = poweredOn (stampAt 0) (0 ∷ 1 ∷ 2 ∷ 3 ∷ 4 ∷ 5 ∷ 6 ∷ 7 ∷ 8 ∷ 9 ∷ 10 ∷ 11 ∷ 12 ∷ 13 ∷ 14 ∷ 15 ∷ []) 1000 defaults .bench
+abbrev pub unitOnBench : Bench
+unitOnBench = poweredOn (stampAt 0) (0 ∷ 1 ∷ 2 ∷ 3 ∷ 4 ∷ 5 ∷ 6 ∷ 7 ∷ 8 ∷ 9 ∷ 10 ∷ 11 ∷ 12 ∷ 13 ∷ 14 ∷ 15 ∷ []) 1000 defaults .bench
 
 abbrev pub sessionFrom : ℕ → ℕ → Run → Run
 sessionFrom at level r =
-    plays (fromHost 3 (0x14 ∷ 0x9A ∷ 0x28 ∷ 0 ∷ 0 ∷ 0 ∷ 0 ∷ 0 ∷ [])) (stampAt (at + 3000))
-    (plays (fromHost 1 (0x20 ∷ 0 ∷ 0 ∷ 0 ∷ 0 ∷ 0 ∷ 0 ∷ 0 ∷ [])) (stampAt (at + 2500))
-    (plays (fromHost 5 (0x20 ∷ 0 ∷ 0 ∷ 0 ∷ level ∷ 0 ∷ 0 ∷ 0 ∷ [])) (stampAt (at + 2000))
+    plays (hostFrame 3 (0x14 ∷ 0x9A ∷ 0x28 ∷ 0 ∷ 0 ∷ 0 ∷ 0 ∷ 0 ∷ [])) (stampAt (at + 3000))
+    (plays (hostFrame 1 (0x20 ∷ 0 ∷ 0 ∷ 0 ∷ 0 ∷ 0 ∷ 0 ∷ 0 ∷ [])) (stampAt (at + 2500))
+    (plays (hostFrame 5 (0x20 ∷ 0 ∷ 0 ∷ 0 ∷ level ∷ 0 ∷ 0 ∷ 0 ∷ [])) (stampAt (at + 2000))
     (plays (frameOn 0x0A100102 3 (0x14 ∷ 0x9A ∷ 0x28 ∷ 0 ∷ 0 ∷ 0 ∷ 0 ∷ 0 ∷ [])) (stampAt (at + 1500))
-    (plays (fromHost 8 (0x14 ∷ 0x53 ∷ 0x4F ∷ 0x46 ∷ 0x50 ∷ 0x4D ∷ 0x48 ∷ 0x44 ∷ [])) (stampAt (at + 1000))
-    (plays (fromHost 3 (0x14 ∷ 0x28 ∷ 0xD5 ∷ 0 ∷ 0 ∷ 0 ∷ 0 ∷ 0 ∷ [])) (stampAt (at + 500))
-    (counts (answeredTo (resetEvent (stampAt at)) (r .bench)) (r .sum)))))))
+    (plays (hostFrame 8 (0x14 ∷ 0x53 ∷ 0x4F ∷ 0x46 ∷ 0x50 ∷ 0x4D ∷ 0x48 ∷ 0x44 ∷ [])) (stampAt (at + 1000))
+    (plays (hostFrame 3 (0x14 ∷ 0x28 ∷ 0xD5 ∷ 0 ∷ 0 ∷ 0 ∷ 0 ∷ 0 ∷ [])) (stampAt (at + 500))
+    (counts (outcomeOf (resetEvent (stampAt at)) (r .bench)) (r .sum)))))))

@@ -2,8 +2,8 @@
 // times it beside plain C.
 ghost use mathlib.Core.Path.{_≡_};
 ghost use Prim.Native.Nat.{_%_, _*_};
-ghost use Rattle.monitor_bench.specs.Sessions.{frameOn, fromHost, counts, plays, sessionFrom, unit};
-use codec::frame::Frame;
+ghost use Rattle.monitor_bench.specs.Sessions.{frameOn, hostFrame, counts, plays, sessionFrom, unitOnBench};
+use codec_pages::frame::Frame;
 use door::LastWord;
 use maintenance::setting::Settings;
 use monitor::bench::Bench;
@@ -11,7 +11,7 @@ use monitor::bench::Outcome;
 use monitor::bench::frame_event;
 use monitor::bench::power_on;
 use monitor::bench::reset_event;
-use rules::time::Stamp;
+use time::Stamp;
 use words::Order;
 use words::word::word32;
 
@@ -33,7 +33,7 @@ fn on(identifier: u32, length: u8, bytes: [u8; 8]) -> Frame
 }
 
 fn host(length: u8, bytes: [u8; 8]) -> Frame
-    ensures { λ r. ⌜ r ≡ fromHost length bytes ⌝ }
+    ensures { λ r. ⌜ r ≡ hostFrame length bytes ⌝ }
 {
     on(0x0A100101, length, bytes)
 }
@@ -98,7 +98,7 @@ fn session(start: Run, turn: u32) -> Run
 }
 
 fn powered() -> Bench
-    ensures { λ r. ⌜ r ≡ unit ⌝ }
+    ensures { λ r. ⌜ r ≡ unitOnBench ⌝ }
 {
     let defaults = Settings {
         receive: 0x0A100101,

@@ -3,11 +3,11 @@ use Prim.Native.Nat.{ℕ}
 use mathlib.Core.Path.{_≡_}
 use mathlib.Core.Bool.{Bool, true, false}
 use mathlib.Core.List.{List, _++_}
-use Rattle.rules.specs.declared.time.Stamp.{Stamp}
+use Rattle.time.specs.declared.Stamp.{Stamp}
 use Rattle.monitor.specs.declared.bench.Bench.{Bench}
 use Rattle.monitor.specs.declared.bench.Outcome.{Outcome}
 use Rattle.monitor.specs.declared.bench.PoweredOn.{PoweredOn}
-use Rattle.monitor.specs.Bench.{answeredTo, uptimeAsked}
+use Rattle.monitor.specs.Bench.{outcomeOf, uptimeAsked}
 use Rattle.show.specs.declared.Line.{Line}
 use Rattle.show.specs.Lines.{Adds, lineFeed}
 use Rattle.monitor_cases.specs.declared.Place.{Place}
@@ -29,7 +29,7 @@ abbrev pub shownLine : Outcome → List ℕ
 shownLine o = outcomeText o ++ storedText (o .bench)
 
 abbrev pub eventLineBy : Bool → Bench → List ℕ → List ℕ
-eventLineBy true b r = shownLine (answeredTo (eventIn r) b)
+eventLineBy true b r = shownLine (outcomeOf (eventIn r) b)
 eventLineBy false b r = noMonitorText
 
 abbrev pub eventLine : Place → List ℕ → List ℕ
@@ -44,7 +44,7 @@ abbrev pub second : Place → List ℕ
 second q = secondBy (q .on) (q .bench)
 
 abbrev pub powerOnLine : Place → PoweredOn → List ℕ
-powerOnLine p n = powerOnText (n .answer) ++ second (afterPowerOn p n)
+powerOnLine p n = powerOnText (n .acceptance) ++ second (afterPowerOn p n)
 
 -- the place after a record is this one, and the text was put at the end of the line
 pub record RecordAnswer (l : Line) (after : Place) (text : List ℕ) (r : Answered) : Type 0 where

@@ -4,9 +4,9 @@ use mathlib.Core.Bool.{Bool, true, false}
 use mathlib.Core.List.{List, [], _∷_, _++_}
 use Rattle.text.specs.Figures.{hexadecimal}
 use Rattle.text.specs.Letters.{letters}
-use Rattle.codec.specs.declared.frame.Frame.{Frame}
-use Rattle.codec.specs.declared.frame.Answer.{Answer}
-use Rattle.codec.specs.declared.frame.Answer.the-variants.{Accepted, Refused}
+use Rattle.codec_pages.specs.declared.frame.Frame.{Frame}
+use Rattle.refusal.specs.declared.Acceptance.{Acceptance}
+use Rattle.refusal.specs.declared.Acceptance.the-variants.{Accepted, Refused}
 use Rattle.maintenance.specs.declared.message.Reply.{Reply}
 use Rattle.maintenance.specs.declared.setting.Settings.{Settings}
 use Rattle.maintenance.specs.Settings.{speedNumber}
@@ -33,15 +33,15 @@ abbrev pub replyText : Reply → List ℕ
 replyText r = replyBy (r .sent) (r .frame)
 
 -- "An event, first part"
-abbrev pub outcomeBy : Answer → Reply → List ℕ
+abbrev pub outcomeBy : Acceptance → Reply → List ℕ
 outcomeBy Accepted r = replyText r
 outcomeBy (Refused why) r = refusedText why
 
 abbrev pub outcomeText : Outcome → List ℕ
-outcomeText o = outcomeBy (o .answer) (o .reply)
+outcomeText o = outcomeBy (o .acceptance) (o .reply)
 
 -- "A power-on, first part: `on`, or `refused 8`."
-abbrev pub powerOnText : Answer → List ℕ
+abbrev pub powerOnText : Acceptance → List ℕ
 powerOnText Accepted = letters "on"
 powerOnText (Refused why) = refusedText why
 

@@ -1,7 +1,6 @@
 // Answers as lines of text, each put at the end of a line.
 ghost use Rattle.show.specs.Lines.{Adds};
 ghost use Rattle.monitor_cases.specs.Lines.{storedText, noMonitorText, replyText, outcomeText, powerOnText, uptimeText, answerText};
-use codec::frame::Answer;
 use maintenance::message::Reply;
 use maintenance::setting::speed_number;
 use monitor::bench::Bench;
@@ -9,6 +8,7 @@ use monitor::bench::Outcome;
 use monitor::bench::UptimeReading;
 use monitor::bench::monitor;
 use monitor::unit::stored;
+use refusal::Acceptance;
 use show::Line;
 use show::byte;
 use show::ended;
@@ -52,21 +52,21 @@ fn reply(l: Line, r: Reply) -> Line
 pub fn outcome(l: Line, o: Outcome) -> Line
     ensures { λ x. ⌜ Adds l (outcomeText o) x ⌝ }
 {
-    let answer = o.answer;
+    let acceptance = o.acceptance;
     let r = o.reply;
-    match answer {
-        Answer::Accepted => reply(l, r),
-        Answer::Refused(why) => refused(l, why),
+    match acceptance {
+        Acceptance::Accepted => reply(l, r),
+        Acceptance::Refused(why) => refused(l, why),
     }
 }
 
 // The first part of a power-on's line.
-pub fn power_on(l: Line, answer: Answer) -> Line
-    ensures { λ x. ⌜ Adds l (powerOnText answer) x ⌝ }
+pub fn power_on(l: Line, acceptance: Acceptance) -> Line
+    ensures { λ x. ⌜ Adds l (powerOnText acceptance) x ⌝ }
 {
-    match answer {
-        Answer::Accepted => text(l, b"on"),
-        Answer::Refused(why) => refused(l, why),
+    match acceptance {
+        Acceptance::Accepted => text(l, b"on"),
+        Acceptance::Refused(why) => refused(l, why),
     }
 }
 

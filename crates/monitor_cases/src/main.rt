@@ -1,24 +1,24 @@
 // Plays the runs of a cases file on standard input, a line for each record: docs/MONITOR_CASES.md has both formats.
 ghost use mathlib.Core.Path.{_≡_};
 ghost use Rattle.show.specs.Lines.{Adds};
-ghost use Rattle.monitor_cases.specs.Places.{holds, afterEvent, afterPowerOn};
+ghost use Rattle.monitor_cases.specs.Places.{holding, afterEvent, afterPowerOn};
 ghost use Rattle.monitor_cases.specs.Answers.{RecordAnswer, questionLine, shownLine, eventLine, second, powerOnLine};
 
 mod line;
 mod record;
 
-use codec::frame::Answer;
 use door::LastWord;
 use door::turn::Turn;
-use door::turn::answered;
 use door::turn::begin;
 use door::turn::go_on;
+use door::turn::next_if;
 use maintenance::message::answer_to;
 use monitor::bench::Bench;
 use monitor::bench::Outcome;
 use monitor::bench::PoweredOn;
 use monitor::bench::no_bench;
 use monitor::bench::uptime;
+use refusal::Acceptance;
 use show::Line;
 use show::empty;
 use show::ended;
@@ -44,7 +44,7 @@ struct Played {
 
 // The place with this monitor on in it.
 fn holding(bench: Bench) -> Place
-    ensures { λ r. ⌜ r ≡ holds bench ⌝ }
+    ensures { λ r. ⌜ r ≡ holding bench ⌝ }
 {
     Place { on: true, bench }
 }
@@ -63,7 +63,7 @@ fn question(l: Line, p: Place, r: [u8; 20]) -> Line
 
 // The place after an event, and the event's line.
 fn shown(l: Line, o: Outcome) -> Answered
-    ensures { λ r. ⌜ RecordAnswer l (holds (o .bench)) (shownLine o) r ⌝ }
+    ensures { λ r. ⌜ RecordAnswer l (holding (o .bench)) (shownLine o) r ⌝ }
 {
     let bench = o.bench;
     Answered {
@@ -90,13 +90,13 @@ fn event(l: Line, p: Place, r: [u8; 20]) -> Answered
 fn placed(p: Place, n: PoweredOn) -> Place
     ensures { λ r. ⌜ r ≡ afterPowerOn p n ⌝ }
 {
-    let answer = n.answer;
-    match answer {
-        Answer::Accepted => {
+    let acceptance = n.acceptance;
+    match acceptance {
+        Acceptance::Accepted => {
             let bench = n.bench;
             holding(bench)
         }
-        Answer::Refused(_) => p,
+        Acceptance::Refused(_) => p,
     }
 }
 
@@ -115,11 +115,11 @@ fn second_part(l: Line, q: Place) -> Line
 fn power_on(l: Line, p: Place, n: PoweredOn) -> Answered
     ensures { λ r. ⌜ RecordAnswer l (afterPowerOn p n) (powerOnLine p n) r ⌝ }
 {
-    let answer = n.answer;
+    let acceptance = n.acceptance;
     let place = placed(p, n);
     Answered {
         place,
-        line: second_part(line::power_on(l, answer), place),
+        line: second_part(line::power_on(l, acceptance), place),
     }
 }
 
@@ -137,7 +137,7 @@ fn write_line(a: Answered) -> Played {
     let line = a.line;
     Played {
         place,
-        turn: answered(written(line)),
+        turn: next_if(written(line)),
     }
 }
 

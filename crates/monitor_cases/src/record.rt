@@ -1,9 +1,9 @@
 // A record of a cases file taken apart.
 ghost use mathlib.Core.Path.{_≡_};
-ghost use Rattle.codec.specs.Table.{part, numberAt};
-ghost use Rattle.monitor.specs.Bench.{answeredTo, poweredOn};
-ghost use Rattle.monitor_cases.specs.Cases.{knownCase, stampIn, frameIn, settingsIn, eventIn};
-use codec::frame::Frame;
+ghost use Rattle.codec_pages.specs.Table.{part, numberAt};
+ghost use Rattle.monitor.specs.Bench.{outcomeOf, poweredOn};
+ghost use Rattle.monitor_cases.specs.Cases.{knownRecord, stampIn, recordFrame, recordSettings, eventIn};
+use codec_pages::frame::Frame;
 use maintenance::setting::Settings;
 use monitor::bench::Bench;
 use monitor::bench::Outcome;
@@ -11,14 +11,14 @@ use monitor::bench::PoweredOn;
 use monitor::bench::frame_event;
 use monitor::bench::power_on;
 use monitor::bench::reset_event;
-use rules::time::Stamp;
+use time::Stamp;
 use words::Order;
 use words::word::word16;
 use words::word::word32;
 
 // Whether the record asks anything that docs/MONITOR_CASES.md lists.
 pub fn known(r: [u8; 20]) -> bool
-    ensures { λ x. ⌜ x ≡ knownCase r ⌝ }
+    ensures { λ x. ⌜ x ≡ knownRecord r ⌝ }
 {
     (r[4] < 6) & ((r[4] > 1) | (r[5] < 2))
 }
@@ -30,7 +30,7 @@ pub fn stamp(r: [u8; 20]) -> Stamp
 }
 
 fn frame(r: [u8; 20]) -> Frame
-    ensures { λ x. ⌜ x ≡ frameIn r ⌝ }
+    ensures { λ x. ⌜ x ≡ recordFrame r ⌝ }
 {
     Frame {
         extended: r[5] == 1,
@@ -49,7 +49,7 @@ pub fn challenge(r: [u8; 20]) -> [u8; 7]
 
 // The settings of a power-on: three in the first twenty bytes, three in the rest of the record.
 fn settings(r: [u8; 20], rest: [u8; 28]) -> Settings
-    ensures { λ x. ⌜ x ≡ settingsIn r rest ⌝ }
+    ensures { λ x. ⌜ x ≡ recordSettings r rest ⌝ }
 {
     Settings {
         receive: word32(Order::Big, r[8], r[9], r[10], r[11]),
@@ -87,7 +87,7 @@ fn serial(rest: [u8; 28]) -> [u8; 16]
 
 // A power-on, put to the monitor.
 pub fn powered_on(r: [u8; 20], rest: [u8; 28]) -> PoweredOn
-    ensures { λ x. ⌜ x ≡ poweredOn (stampIn r) (part rest 12 16) (numberAt r 6 2) (settingsIn r rest) ⌝ }
+    ensures { λ x. ⌜ x ≡ poweredOn (stampIn r) (part rest 12 16) (numberAt r 6 2) (recordSettings r rest) ⌝ }
 {
     power_on(
         stamp(r),
@@ -99,7 +99,7 @@ pub fn powered_on(r: [u8; 20], rest: [u8; 28]) -> PoweredOn
 
 // An event, put to the monitor.
 pub fn event(b: Bench, r: [u8; 20]) -> Outcome
-    ensures { λ x. ⌜ x ≡ answeredTo (eventIn r) b ⌝ }
+    ensures { λ x. ⌜ x ≡ outcomeOf (eventIn r) b ⌝ }
 {
     let kind = r[4];
     match kind {

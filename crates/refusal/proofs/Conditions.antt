@@ -5,13 +5,13 @@ use mathlib.Core.Bool.{Bool, true, false, cond}
 use mathlib.Core.List.{List, [], _∷_}
 use mathlib.Core.Logic.{_↔_, inl, inr}
 use native.Mathlib.Omega.{arith}
-use Rattle.refusal.specs.Conditions.{Condition, First, None, Told, refusal, answer, Answers}
+use Rattle.refusal.specs.Conditions.{Condition, First, None, Told, refusal, good, GivenExactly}
 
 abbrev pub pick : {A : Type 0} → List Condition → A → Told A
-pick [] a = answer a
+pick [] a = good a
 pick (c ∷ cs) a = cond (c .holds) (refusal (c .number)) (pick cs a)
 
-pub pick-none : {A : Type 0} (cs : List Condition) (a : A) → None cs → pick cs a ≡ answer a
+pub pick-none : {A : Type 0} (cs : List Condition) (a : A) → None cs → pick cs a ≡ good a
 pick-none [] a h = refl
 pick-none (c ∷ cs) a h = rw (h .0) (pick-none cs a (h .1))
 
@@ -42,6 +42,6 @@ first-not-none n (c ∷ cs) (inl h) l = let e : true ≡ false = sym (h .0) ∙ 
 first-not-none n (c ∷ cs) (inr h) l = first-not-none n cs (h .1) (l .1)
 
 -- what is picked from the conditions is answered or refused as they say
-pub answers : {A : Type 0} (told : Told A) (cs : List Condition) (a : A) → told ≡ pick cs a → Answers told cs a
-answers told cs a e =
-    record { refused = λ n. rw e (pick-exactly cs a n); answered = λ h. e ∙ pick-none cs a h }
+pub given-exactly : {A : Type 0} (told : Told A) (cs : List Condition) (a : A) → told ≡ pick cs a → GivenExactly told cs a
+given-exactly told cs a e =
+    record { refused = λ n. rw e (pick-exactly cs a n); otherwise = λ h. e ∙ pick-none cs a h }

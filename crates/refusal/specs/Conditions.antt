@@ -1,4 +1,4 @@
--- Refusals in order: "Given exactly when", and 1 before 2 before 3. What a call tells on paper is a refusal's number or an answer.
+-- Refusals in order: "Given exactly when", and 1 before 2 before 3. What a call tells on paper is a refusal's number or a good value.
 use Prim.Native.Nat.{ℕ}
 use mathlib.Core.Path.{_≡_}
 use mathlib.Core.Bool.{Bool, true, false}
@@ -25,9 +25,10 @@ None (c ∷ cs) = (c .holds ≡ false) × None cs
 
 pub data Told (A : Type 0) : Type 0 where
   refusal : ℕ → Told A
-  answer : A → Told A
+  good : A → Told A
 
--- What is told is refusal n exactly when the condition of n holds and none before it; where none holds it is the good answer.
-pub record Answers {A : Type 0} (told : Told A) (cs : List Condition) (good : A) : Type 0 where
+-- "Given exactly when": what is told is refusal n exactly when the condition of n holds and none before it; where none holds it is
+-- the good value.
+pub record GivenExactly {A : Type 0} (told : Told A) (cs : List Condition) (value : A) : Type 0 where
   pub refused : (n : ℕ) → told ≡ refusal n ↔ First n cs
-  pub answered : None cs → told ≡ answer good
+  pub otherwise : None cs → told ≡ good value

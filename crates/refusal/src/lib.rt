@@ -29,6 +29,12 @@ pub enum Refusal {
     ShortBuffer,
 }
 
+// Accepted, or refused and why.
+pub enum Acceptance {
+    Accepted,
+    Refused(Refusal),
+}
+
 // The number that document 01 gives a refusal.
 pub fn number(why: Refusal) -> u8
     ensures { λ r. ⌜ r ≡ numberOf why ⌝ }

@@ -4,8 +4,8 @@ use Prim.Native.Nat.{ℕ}
 use mathlib.Core.Path.{_≡_}
 use mathlib.Core.Bool.{Bool, true, false}
 use mathlib.Core.List.{List}
-use Rattle.codec.specs.declared.frame.Answer.{Answer}
-use Rattle.codec.specs.declared.frame.Answer.the-variants.{Accepted, Refused}
+use Rattle.refusal.specs.declared.Acceptance.{Acceptance}
+use Rattle.refusal.specs.declared.Acceptance.the-variants.{Accepted, Refused}
 use Rattle.refusal.specs.declared.Refusal.{Refusal}
 use Rattle.door.specs.declared.LastWord.{LastWord}
 use Rattle.door.specs.declared.LastWord.the-variants.{Complete, Refused as No, Unread, Cut}
@@ -14,16 +14,16 @@ use Rattle.listing.specs.declared.output.Rest.{Rest}
 use Rattle.listing.specs.Output.{restIn}
 
 -- by how the log was answered
-abbrev pub wordFor : Answer → LastWord
+abbrev pub wordFor : Acceptance → LastWord
 wordFor Accepted = Complete
 wordFor (Refused why) = No
 
-abbrev pub wordBy : Bool → Answer → LastWord
+abbrev pub wordBy : Bool → Acceptance → LastWord
 wordBy true a = wordFor a
 wordBy false a = Cut
 
 abbrev pub wordOn : Rest → LastWord
-wordOn r = wordBy (r .over) (r .answer)
+wordOn r = wordBy (r .over) (r .acceptance)
 
 -- the log is accepted, and after some number of parts nothing was left
 pub record WholeListing (s : List ℕ) : Type 0 where
@@ -38,8 +38,8 @@ pub record WholeRefusal (s : List ℕ) : Type 0 where
   pub parts : ℕ
   pub over : restIn parts s .over ≡ true
 
-abbrev pub Told : List ℕ → LastWord → Type 0
-Told s Complete = WholeListing s
-Told s No = WholeRefusal s
-Told s Unread = ⊥
-Told s Cut = Unit {0}
+abbrev pub SaidOfLog : List ℕ → LastWord → Type 0
+SaidOfLog s Complete = WholeListing s
+SaidOfLog s No = WholeRefusal s
+SaidOfLog s Unread = ⊥
+SaidOfLog s Cut = Unit {0}

@@ -1,22 +1,22 @@
 // Replays a closed bench log: the log on standard input, its listing or the line `refused N` on standard output.
 ghost use mathlib.Core.Path.{_≡_};
-ghost use Rattle.replay.specs.LastWord.{wordOn, Told};
-use codec::frame::Answer;
+ghost use Rattle.replay.specs.LastWord.{wordOn, SaidOfLog};
 use door::LastWord;
 use listing::output::Rest;
 use listing::output::next_part;
 use listing::output::whole;
+use refusal::Acceptance;
 
 // The last word where nothing more is written: by the log's answer if nothing is left, and cut if something is.
 fn last_word(rest: Rest) -> LastWord
     ensures { λ r. ⌜ r ≡ wordOn rest ⌝ }
 {
     let over = rest.over;
-    let answer = rest.answer;
+    let acceptance = rest.acceptance;
     if over {
-        return match answer {
-            Answer::Accepted => LastWord::Complete,
-            Answer::Refused(_) => LastWord::Refused,
+        return match acceptance {
+            Acceptance::Accepted => LastWord::Complete,
+            Acceptance::Refused(_) => LastWord::Refused,
         };
     }
     LastWord::Cut
@@ -25,7 +25,7 @@ fn last_word(rest: Rest) -> LastWord
 // Writes the output of a log, part by part. 18 parts are always all of it. Where one cannot be written none
 // follows, so that what is written is the beginning of the output and never has a hole.
 fn write_parts(s: &[u8], text: &mut [u8]) -> LastWord
-    ensures { λ r. ⌜ Told (now (s .entry)) r ⌝ }
+    ensures { λ r. ⌜ SaidOfLog (now (s .entry)) r ⌝ }
 {
     let mut rest = whole(s);
     let mut i: u32 = 0;

@@ -2,9 +2,9 @@
 // `refused N`.
 use door::LastWord;
 use door::turn::Turn;
-use door::turn::answered;
 use door::turn::begin;
 use door::turn::go_on;
+use door::turn::next_if;
 use door::write_first;
 use listing::listing::listing;
 use text::written::Written;
@@ -30,7 +30,7 @@ fn answer_log(log: &mut [u8], text: &mut [u8]) -> Turn {
     let input = door::read_input(log);
     let turn = go_on(input, log.len());
     match turn {
-        Turn::Next => answered(answer(log, text)),
+        Turn::Next => next_if(answer(log, text)),
         Turn::Over(word) => Turn::Over(word),
     }
 }

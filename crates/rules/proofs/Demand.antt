@@ -11,7 +11,7 @@ use Rattle.maintenance.specs.declared.setting.Setting.the-variants.{ReceiveId, 
 use Rattle.maintenance.specs.declared.setting.Settings.{Settings}
 use Rattle.maintenance.specs.Settings.{valueOf}
 use Rattle.maintenance.specs.Messages.{message, heardOn}
-use Rattle.rules.specs.declared.time.Stamp.{Stamp}
+use Rattle.time.specs.declared.Stamp.{Stamp}
 use Rattle.rules.specs.Events.{Event, frameEvent, resetEvent, PowerOn, stampOf, lastStamp}
 use Rattle.rules.specs.History.{commits, taking, storedAfter, inSession, lastWrite}
 use Rattle.rules.specs.Demand.{Reading, lookingBack, Opened, Stores, Changes, Demand}

@@ -5,18 +5,19 @@ use mathlib.Core.Bool.{Bool, true, false, cond}
 use mathlib.Core.List.{List}
 use mathlib.Core.Option.{Option, none, some}
 use lib.Dec.{leb, lit≤}
-use borrow.Author.Tests.{leb-true, le-ltb}
+use borrow.Author.Tests.{leb-true}
 use native.Mathlib.Omega.{arith}
 use Rattle.words.proofs.Tests.{false-true}
-use Rattle.codec.specs.declared.frame.Frame.{Frame}
-use Rattle.codec.specs.Building.{buildReport}
+use Rattle.codec_pages.specs.declared.frame.Frame.{Frame}
+use Rattle.codec_pages.specs.declared.rows.Kind.the-variants.{Sim101}
+use Rattle.codec_pages.proofs.Promise.{promise as codec}
 use Rattle.maintenance.specs.declared.message.Message.{Message}
 use Rattle.maintenance.specs.declared.message.Reply.{Reply}
 use Rattle.maintenance.specs.declared.message.Message.the-variants.{Other, Unlock, Commit, Answer as Answered, SerialRequest, Read, Write}
 use Rattle.maintenance.specs.Settings.{legal}
-use Rattle.maintenance.specs.Messages.{message, heardOn, quiet, ack, nak, challenged, serialReport}
+use Rattle.maintenance.specs.Messages.{message, heardOn, quiet, ack, nak, challenged, serialWord, serialReport}
 use Rattle.maintenance.proofs.Messages.{Listed, serial-listed}
-use Rattle.rules.specs.declared.time.Stamp.{Stamp}
+use Rattle.time.specs.declared.Stamp.{Stamp}
 use Rattle.rules.specs.Events.{Event, frameEvent, resetEvent, PowerOn}
 use Rattle.rules.specs.History.{timelyUnlock, timelyAnswer, storedAfter, inSession, pendingSince, lastStart, replyToAnswer, replyOutside, replyInside, replyTo}
 use Rattle.rules.specs.Promise.{OnIdentifier}
@@ -27,9 +28,8 @@ silent-on : (i : ℕ) → OnIdentifier i quiet
 silent-on i s = false-true (sym s)
 
 serial-on : (i : ℕ) (serial : List ℕ) (mux : ℕ) → leb i 0x1FFFFFFF ≡ true → 0x08 ≤ mux → mux ≤ 0x0B → OnIdentifier i (serialReport i serial mux)
-unfolding buildReport
 serial-on i serial mux h low high s =
-    rw (le-ltb 0x1FFFFFFF i (leb-true i 0x1FFFFFFF h), le-ltb mux 0x01 (omega arith), le-ltb 0x0B mux high) (refl, (refl, lit≤ tt))
+    rw (codec .words-built Sim101 i mux (serialWord serial mux) (leb-true i 0x1FFFFFFF h) (omega arith) high) (refl, (refl, lit≤ tt))
 
 -- one of two replies
 either-on : (i : ℕ) (b : Bool) (x y : Reply) → OnIdentifier i x → OnIdentifier i y → OnIdentifier i (cond b x y)

@@ -4,7 +4,7 @@ use mathlib.Core.Path.{_≡_, refl, sym, ap, _∙_}
 use mathlib.Core.Bool.{Bool, true, false, cond, _&&_}
 use mathlib.Core.List.{List, _∷_, _++_}
 use mathlib.Core.Option.{Option, none, some, Option·getD, Option·none-ne-some}
-use Rattle.codec.specs.declared.frame.Frame.{Frame}
+use Rattle.codec_pages.specs.declared.frame.Frame.{Frame}
 use Rattle.maintenance.specs.declared.setting.Setting.{Setting}
 use Rattle.maintenance.specs.declared.setting.Setting.the-variants.{ReceiveId, TransmitId, Speed, Voltage, WarningLevel, FaultLevel}
 use Rattle.maintenance.specs.declared.setting.Settings.{Settings}
@@ -13,7 +13,7 @@ use Rattle.maintenance.specs.declared.message.Message.{Message}
 use Rattle.maintenance.specs.declared.message.Message.the-variants.{Other, Unlock, Commit, Answer, SerialRequest, Read, Write}
 use Rattle.maintenance.specs.Messages.{message, heardOn}
 use Rattle.words.proofs.Tests.{false-true}
-use Rattle.rules.specs.declared.time.Stamp.{Stamp}
+use Rattle.time.specs.declared.Stamp.{Stamp}
 use Rattle.rules.specs.Events.{Event, frameEvent, PowerOn}
 use Rattle.rules.specs.History.{near, timelyUnlock, timelyAnswer, answers, commits, writes, leavesOpen, leavesPending, leavesStart, newest, taking, storedAfter, inSession, pendingSince, lastStart, lastWrite}
 use Rattle.rules.specs.Demand.{lookingBack, heardIn}

@@ -11,7 +11,7 @@ use Rattle.maintenance.specs.declared.setting.Setting.{Setting}
 use Rattle.maintenance.specs.declared.setting.Settings.{Settings}
 use Rattle.maintenance.specs.Settings.{valueOf}
 use Rattle.maintenance.specs.Messages.{heardOn}
-use Rattle.rules.specs.declared.time.Stamp.{Stamp}
+use Rattle.time.specs.declared.Stamp.{Stamp}
 use Rattle.rules.specs.Events.{Event, frameEvent, resetEvent, PowerOn, lastStamp, Run}
 use Rattle.rules.specs.History.{unlocks, answers, commits}
 use Rattle.rules.specs.Demand.{Reading, Heard, heardIn, No, Close, lastAccepted, Past, heardSince, Unlocked, Opened, Stores, Changes, Silent, Start, at-power-on, at-reset, at-commit, after-silence, LastStart, Demand}

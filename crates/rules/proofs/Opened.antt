@@ -7,11 +7,11 @@ use mathlib.Core.Option.{Option, none, some, Option·some-injective}
 use lib.Dec.{leb}
 use borrow.Author.Tests.{leb-true, not-true}
 use Rattle.words.proofs.Tests.{decided, false-true, and-left, and-right}
-use Rattle.codec.specs.declared.frame.Frame.{Frame}
+use Rattle.codec_pages.specs.declared.frame.Frame.{Frame}
 use Rattle.maintenance.specs.declared.message.Message.{Message}
 use Rattle.maintenance.specs.declared.message.Message.the-variants.{Other, Unlock, Commit, Answer, SerialRequest, Read, Write}
 use Rattle.maintenance.specs.Messages.{message, heardOn, isRight}
-use Rattle.rules.specs.declared.time.Stamp.{Stamp}
+use Rattle.time.specs.declared.Stamp.{Stamp}
 use Rattle.rules.specs.Events.{Event, frameEvent, resetEvent, PowerOn}
 use Rattle.rules.specs.History.{near, timelyUnlock, timelyAnswer, unlocks, answers, commits, leavesOpen, leavesPending, storedAfter, inSession, pendingSince, lastStart}
 use Rattle.rules.specs.Demand.{lookingBack, Heard, heardIn, No, Close, Past, heardSince, Unlocked, Opened}

@@ -6,8 +6,8 @@ use lib.Dec.{eqb}
 use borrow.Author.Tests.{le-ltb, lt-ltb}
 use native.Mathlib.Omega.{arith}
 use Rattle.words.proofs.Tests.{decided, false-true, and-false}
-use Rattle.codec.specs.declared.frame.Frame.{Frame}
-use Rattle.codec.specs.Table.{numberAt}
+use Rattle.codec_pages.specs.declared.frame.Frame.{Frame}
+use Rattle.codec_pages.specs.Table.{numberAt}
 use Rattle.maintenance.specs.declared.setting.Named.{Named}
 use Rattle.maintenance.specs.declared.setting.Named.the-variants.{Unknown, Known}
 use Rattle.maintenance.specs.declared.message.Message.{Message}
@@ -15,13 +15,13 @@ use Rattle.maintenance.specs.declared.message.Message.the-variants.{Other, Unlo
 use Rattle.maintenance.specs.Settings.{settingOf}
 use Rattle.maintenance.specs.Messages.{byte, isUnlock, isCommit, isAnswer, asksSerial, asRead, asWrite, message, isRight}
 use Rattle.maintenance.proofs.Messages.{says, right-means}
-use Rattle.rules.specs.declared.time.Stamp.{Stamp}
+use Rattle.time.specs.declared.Stamp.{Stamp}
 use Rattle.rules.specs.declared.unit.Pending.{Pending}
 use Rattle.rules.specs.declared.unit.Session.{Session}
 use Rattle.rules.specs.declared.unit.Phase.{Phase}
 use Rattle.rules.specs.declared.unit.Phase.the-variants.{Outside, InSession}
 use Rattle.rules.specs.declared.unit.Monitor.{Monitor}
-use Rattle.rules.specs.Times.{pastLimit}
+use Rattle.time.specs.Times.{pastLimit}
 use Rattle.rules.specs.Rules.{wokenBy, woken, ignored, answered, outside, refused, committed, inside, heard, metBy, met, frameMet, framed}
 use Rattle.rules.specs.Promise.{MeetsAsWoken}
 use Rattle.rules.proofs.Rules.{woken-later}

@@ -7,14 +7,14 @@ use lib.Dec.{eqb}
 use borrow.Author.Tests.{lt-ltb, ltb-true}
 use native.Mathlib.Omega.{arith}
 use Rattle.words.proofs.Tests.{decided}
-use Rattle.codec.specs.declared.frame.Frame.{Frame}
-use Rattle.rules.specs.declared.time.Stamp.{Stamp}
+use Rattle.codec_pages.specs.declared.frame.Frame.{Frame}
+use Rattle.time.specs.declared.Stamp.{Stamp}
 use Rattle.maintenance.specs.declared.setting.Settings.{Settings}
 use Rattle.rules.specs.declared.unit.Phase.{Phase}
 use Rattle.rules.specs.declared.unit.Phase.the-variants.{Outside, InSession}
 use Rattle.rules.specs.declared.unit.Monitor.{Monitor}
 use Rattle.rules.specs.declared.unit.Turn.{Turn}
-use Rattle.rules.specs.Times.{later, pastLimit}
+use Rattle.time.specs.Times.{later, pastLimit}
 use Rattle.maintenance.specs.Messages.{quiet}
 use Rattle.rules.specs.Rules.{turn, startedWith, started, wokenBy, woken, heard, met, wasReset}
 use Rattle.rules.specs.Promise.{UnheardChangesNothing, Fresh, Starts}

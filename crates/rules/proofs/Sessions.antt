@@ -6,11 +6,11 @@ use mathlib.Core.List.{List, [], _∷_, _++_}
 use mathlib.Core.Option.{none, some}
 use borrow.Author.Tests.{le-leb}
 use Rattle.words.proofs.Tests.{decided, false-true}
-use Rattle.codec.specs.declared.frame.Frame.{Frame}
+use Rattle.codec_pages.specs.declared.frame.Frame.{Frame}
 use Rattle.maintenance.specs.declared.setting.Setting.{Setting}
 use Rattle.maintenance.specs.declared.message.Message.the-variants.{Unlock}
 use Rattle.maintenance.specs.Messages.{message, heardOn}
-use Rattle.rules.specs.declared.time.Stamp.{Stamp}
+use Rattle.time.specs.declared.Stamp.{Stamp}
 use Rattle.rules.specs.Events.{Event, frameEvent, resetEvent, PowerOn}
 use Rattle.rules.specs.History.{unlocks, answers, commits, writes, newest, storedAfter, inSession, pendingSince, lastStart, lastWrite}
 use Rattle.rules.specs.Demand.{lookingBack, Heard, heardIn, No, hasReset, Close, lastAccepted, heardSince, Unlocked, Opened}

@@ -2,13 +2,13 @@
 use Prim.Native.Nat.{ℕ}
 use mathlib.Core.Path.{_≡_, refl}
 use mathlib.Core.Bool.{Bool, true, false, cond, not, _&&_}
-use Rattle.codec.specs.declared.frame.Frame.{Frame}
+use Rattle.codec_pages.specs.declared.frame.Frame.{Frame}
 use Rattle.maintenance.specs.declared.setting.Settings.{Settings}
 use Rattle.maintenance.specs.declared.message.Message.{Message}
 use Rattle.maintenance.specs.declared.message.Message.the-variants.{Other, Unlock, Commit, Answer, SerialRequest, Read, Write}
 use Rattle.maintenance.specs.Settings.{legal}
 use Rattle.maintenance.specs.Messages.{message, isRight}
-use Rattle.rules.specs.declared.time.Stamp.{Stamp}
+use Rattle.time.specs.declared.Stamp.{Stamp}
 use Rattle.rules.specs.declared.unit.Pending.{Pending}
 use Rattle.rules.specs.declared.unit.Pending.the-variants.{Nothing, Since}
 use Rattle.rules.specs.declared.unit.Session.{Session}
@@ -16,7 +16,7 @@ use Rattle.rules.specs.declared.unit.Phase.{Phase}
 use Rattle.rules.specs.declared.unit.Phase.the-variants.{Outside, InSession}
 use Rattle.rules.specs.declared.unit.Monitor.{Monitor}
 use Rattle.rules.specs.declared.unit.Turn.{Turn}
-use Rattle.rules.specs.Times.{later, pastLimit}
+use Rattle.time.specs.Times.{later, pastLimit}
 use Rattle.rules.specs.Rules.{inPhase, started, heard, outside, inside, frameMet, framed}
 use Rattle.rules.specs.Promise.{withSpeed, SpeedChangesNothing}
 

@@ -6,11 +6,11 @@ use mathlib.Core.List.{List, [], _∷_, _++_, append-nil}
 use borrow.Author.Tests.{leb-true, leb-false, le-leb, lt-leb, not-true}
 use native.Mathlib.Omega.{arith}
 use Rattle.words.proofs.Tests.{decided, false-true, and-left, and-right}
-use Rattle.codec.specs.declared.frame.Frame.{Frame}
+use Rattle.codec_pages.specs.declared.frame.Frame.{Frame}
 use Rattle.maintenance.specs.declared.message.Message.{Message}
 use Rattle.maintenance.specs.Messages.{message, heardOn}
-use Rattle.rules.specs.declared.time.Stamp.{Stamp}
-use Rattle.rules.specs.Times.{later}
+use Rattle.time.specs.declared.Stamp.{Stamp}
+use Rattle.time.specs.Times.{later}
 use Rattle.rules.specs.Events.{Event, frameEvent, resetEvent, PowerOn, stampOf, lastStamp, Run}
 use Rattle.rules.specs.History.{near, timelyAnswer, commits, leavesOpen, leavesStart, storedAfter, inSession, pendingSince, lastStart}
 use Rattle.rules.specs.Demand.{lookingBack, Silent, Start, at-power-on, at-reset, at-commit, after-silence, LastStart}

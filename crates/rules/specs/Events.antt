@@ -3,10 +3,10 @@ use Prim.Native.Nat.{ℕ, _≤_}
 use mathlib.Core.Path.{_≡_}
 use mathlib.Core.Bool.{Bool, true, false, cond}
 use mathlib.Core.List.{List, [], _∷_}
-use Rattle.codec.specs.declared.frame.Frame.{Frame}
-use Rattle.codec.specs.Frames.{overLimits}
-use Rattle.rules.specs.declared.time.Stamp.{Stamp}
-use Rattle.rules.specs.Times.{earlier}
+use Rattle.codec_pages.specs.declared.frame.Frame.{Frame}
+use Rattle.codec_pages.specs.Frames.{overLimits}
+use Rattle.time.specs.declared.Stamp.{Stamp}
+use Rattle.time.specs.Times.{earlier}
 use Rattle.maintenance.specs.declared.setting.Settings.{Settings}
 use Rattle.maintenance.specs.Settings.{accepted}
 

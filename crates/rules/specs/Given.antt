@@ -3,7 +3,7 @@ use Prim.Native.Nat.{ℕ}
 use mathlib.Core.Bool.{Bool, true, false}
 use mathlib.Core.List.{List}
 use lib.ListN.{take}
-use Rattle.codec.specs.declared.frame.Frame.{Frame}
+use Rattle.codec_pages.specs.declared.frame.Frame.{Frame}
 use Rattle.maintenance.specs.declared.message.Reply.{Reply}
 
 -- the monitor is on; no reply; the identifier and the bytes of a reply; the ticks of the uptime

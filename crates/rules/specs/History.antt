@@ -6,7 +6,7 @@ use mathlib.Core.Bool.{Bool, true, false, not, cond, _&&_}
 use mathlib.Core.List.{List, [], _∷_}
 use mathlib.Core.Option.{Option, none, some, Option·getD}
 use lib.Dec.{eqb, leb}
-use Rattle.codec.specs.declared.frame.Frame.{Frame}
+use Rattle.codec_pages.specs.declared.frame.Frame.{Frame}
 use Rattle.maintenance.specs.declared.setting.Setting.{Setting}
 use Rattle.maintenance.specs.declared.setting.Setting.the-variants.{ReceiveId, TransmitId, Speed, Voltage, WarningLevel, FaultLevel}
 use Rattle.maintenance.specs.declared.setting.Settings.{Settings}
@@ -15,8 +15,8 @@ use Rattle.maintenance.specs.declared.message.Message.the-variants.{Other, Unlo
 use Rattle.maintenance.specs.declared.message.Reply.{Reply}
 use Rattle.maintenance.specs.Settings.{code, legal, valueOf}
 use Rattle.maintenance.specs.Messages.{message, heardOn, isRight, quiet, ack, nak, challenged, shown, serialReport}
-use Rattle.rules.specs.declared.time.Stamp.{Stamp}
-use Rattle.rules.specs.Times.{later}
+use Rattle.time.specs.declared.Stamp.{Stamp}
+use Rattle.time.specs.Times.{later}
 use Rattle.rules.specs.Events.{Event, frameEvent, resetEvent, PowerOn}
 
 -- ---- the limits of time

@@ -3,20 +3,20 @@ use Prim.Native.Nat.{ℕ, _+_, _<_, _≤_}
 use mathlib.Core.Path.{_≡_}
 use mathlib.Core.Bool.{Bool, true, false}
 use mathlib.Core.List.{List, _∷_}
-use Rattle.codec.specs.declared.frame.Frame.{Frame}
+use Rattle.codec_pages.specs.declared.frame.Frame.{Frame}
 use Rattle.maintenance.specs.declared.setting.Setting.the-variants.{Speed}
 use Rattle.maintenance.specs.declared.setting.Settings.{Settings}
 use Rattle.maintenance.specs.declared.message.Reply.{Reply}
 use Rattle.maintenance.specs.Settings.{accepted, withValue}
 use Rattle.maintenance.specs.Messages.{quiet as noReply}
-use Rattle.rules.specs.declared.time.Stamp.{Stamp}
+use Rattle.time.specs.declared.Stamp.{Stamp}
 use Rattle.rules.specs.declared.unit.Session.{Session}
 use Rattle.rules.specs.declared.unit.Pending.{Pending}
 use Rattle.rules.specs.declared.unit.Pending.the-variants.{Nothing}
 use Rattle.rules.specs.declared.unit.Phase.{Phase}
 use Rattle.rules.specs.declared.unit.Phase.the-variants.{Outside, InSession}
 use Rattle.rules.specs.declared.unit.Monitor.{Monitor}
-use Rattle.rules.specs.Times.{later}
+use Rattle.time.specs.Times.{later}
 use Rattle.rules.specs.Events.{Event, PowerOn, IsAccepted, lastStamp, Run}
 use Rattle.rules.specs.Rules.{turn, started, woken, heard, framed, wasReset, step, unitAfter}
 use Rattle.rules.specs.Replies.{OutsideReplies, SessionReplies}

@@ -8,14 +8,14 @@ use mathlib.Core.Logic.{_⊎_}
 use lib.Dec.{eqb}
 use Rattle.words.specs.declared.Order.the-variants.{Big}
 use Rattle.words.specs.Words.{bytesOf}
-use Rattle.codec.specs.declared.frame.Frame.{Frame}
-use Rattle.codec.specs.Table.{part, numberAt}
+use Rattle.codec_pages.specs.declared.frame.Frame.{Frame}
+use Rattle.codec_pages.specs.Table.{part, numberAt}
 use Rattle.maintenance.specs.declared.setting.Setting.{Setting}
 use Rattle.maintenance.specs.declared.setting.Named.{Named}
 use Rattle.maintenance.specs.declared.setting.Named.the-variants.{Unknown, Known}
 use Rattle.maintenance.specs.Settings.{code, settingOf, legal, valueOf, withValue}
 use Rattle.maintenance.specs.Messages.{byte, isUnlock, isCommit, isAnswer, asksSerial, answerTo, serialReport, quiet, says}
-use Rattle.rules.specs.declared.time.Stamp.{Stamp}
+use Rattle.time.specs.declared.Stamp.{Stamp}
 use Rattle.rules.specs.declared.unit.Pending.{Pending}
 use Rattle.rules.specs.declared.unit.Pending.the-variants.{Nothing, Since}
 use Rattle.rules.specs.declared.unit.Session.{Session}

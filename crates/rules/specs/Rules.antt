@@ -3,9 +3,9 @@
 use Prim.Native.Nat.{ℕ}
 use mathlib.Core.Bool.{Bool, true, false, not, cond, _&&_}
 use mathlib.Core.List.{List, [], _∷_}
-use Rattle.codec.specs.declared.frame.Frame.{Frame}
-use Rattle.rules.specs.declared.time.Stamp.{Stamp}
-use Rattle.rules.specs.declared.time.Ticks.{Ticks}
+use Rattle.codec_pages.specs.declared.frame.Frame.{Frame}
+use Rattle.time.specs.declared.Stamp.{Stamp}
+use Rattle.time.specs.declared.Ticks.{Ticks}
 use Rattle.maintenance.specs.declared.setting.Setting.{Setting}
 use Rattle.maintenance.specs.declared.setting.Settings.{Settings}
 use Rattle.maintenance.specs.declared.message.Message.{Message}
@@ -17,7 +17,7 @@ use Rattle.rules.specs.declared.unit.Phase.{Phase}
 use Rattle.rules.specs.declared.unit.Phase.the-variants.{Outside, InSession}
 use Rattle.rules.specs.declared.unit.Monitor.{Monitor}
 use Rattle.rules.specs.declared.unit.Turn.{Turn}
-use Rattle.rules.specs.Times.{later, pastLimit, ticksBetween}
+use Rattle.time.specs.Times.{later, pastLimit, ticksBetween}
 use Rattle.rules.specs.Events.{Event, frameEvent, resetEvent, PowerOn}
 use Rattle.maintenance.specs.Settings.{legal, valueOf, withValue}
 use Rattle.maintenance.specs.Messages.{message, heardOn, isRight, quiet, ack, nak, challenged, shown, serialReport}

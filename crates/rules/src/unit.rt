@@ -1,7 +1,7 @@
 // What a monitor holds, and what an event leaves.
-use crate::time::Stamp;
 use maintenance::message::Reply;
 use maintenance::setting::Settings;
+use time::Stamp;
 
 // A challenge that waits for its answer, since its stamp.
 pub enum Pending {

@@ -13,8 +13,8 @@ use Rattle.words.proofs.Tests.{by-test, false-true, and-left, and-right}
 use Rattle.refusal.specs.declared.Refusal.{Refusal}
 use Rattle.refusal.specs.declared.Refusal.the-variants.{WrongSheet, ShortBuffer}
 use Rattle.refusal.specs.Refusals.{numberOf}
-use Rattle.refusal.specs.Conditions.{_when_, Told, refusal, answer}
-use Rattle.refusal.proofs.Conditions.{pick, answers}
+use Rattle.refusal.specs.Conditions.{_when_, Told, refusal, good}
+use Rattle.refusal.proofs.Conditions.{pick, given-exactly}
 use Rattle.maintenance.specs.declared.setting.Setting.{Setting}
 use Rattle.maintenance.specs.declared.setting.Setting.the-variants.{ReceiveId, TransmitId, Speed, Voltage, WarningLevel, FaultLevel}
 use Rattle.maintenance.specs.declared.setting.Settings.{Settings}
@@ -42,21 +42,21 @@ use Rattle.sheet.proofs.Apart.{sheets-apart, line-most, one-judged, one
 -- ---- reading
 
 abbrev isAnswer : Told Settings → Bool
-isAnswer (answer k) = true
+isAnswer (good k) = true
 isAnswer (refusal n) = false
 
 abbrev settingsOr : Settings → Told Settings → Settings
-settingsOr m (answer k) = k
+settingsOr m (good k) = k
 settingsOr m (refusal n) = m
 
 abbrev numberOr : Told Settings → ℕ
-numberOr (answer k) = 0
+numberOr (good k) = 0
 numberOr (refusal n) = n
 
 is-read : (s : List ℕ) (r : SheetRead) → Reads s r → (k : Settings) → IsSheet s k → r ≡ ReadSettings k
 is-read s r x k y = one-read s r (ReadSettings k) x y
 
-told-accepted : (s : List ℕ) (r : SheetRead) → Reads s r → (k : Settings) → toldRead r ≡ answer k → IsSheet s k
+told-accepted : (s : List ℕ) (r : SheetRead) → Reads s r → (k : Settings) → toldRead r ≡ good k → IsSheet s k
 told-accepted s (ReadSettings m) x k e = subst (λ (y : Settings). IsSheet s y) (ap (settingsOr m) e) x
 told-accepted s (Refused why) x k e = false-true (sym (ap isAnswer e))
 
@@ -115,7 +115,7 @@ room-enough k l held r after h x =
 stands : (k : Settings) (held after : List ℕ) (n : ℕ) → SheetWritten k held (Text n) after → (n ≡ length (sheetText k)) × (after ≡ sheetText k ++ drop n held)
 stands k held after n x = text-stands (sheetText k) held after n (written-fitted k held after n x .1)
 
-back : (k : Settings) (held : List ℕ) (n : ℕ) (after : List ℕ) → SheetWritten k held (Text n) after → (r : SheetRead) → Reads (take n after) r → toldRead r ≡ answer k
+back : (k : Settings) (held : List ℕ) (n : ℕ) (after : List ℕ) → SheetWritten k held (Text n) after → (r : SheetRead) → Reads (take n after) r → toldRead r ≡ good k
 back k held n after x r y =
     let both = stands k held after n x in
     ap toldRead (is-read (take n after) r y k (record { legal = written-fitted k held after n x .0; same = ap (take n) (both .1) ∙ take-at (sheetText k) (drop n held) n (sym (both .0)) }))
@@ -184,7 +184,7 @@ promise =
       apart = sheets-apart;
       comma-or-dot = sign-refused;
       writes = λ k held r after x. record {
-        answers = answers (toldText r (sheetText k)) (writerConditions k (length held)) (sheetText k) (told-by (isLegal k) k held r after x);
+        exactly = given-exactly (toldText r (sheetText k)) (writerConditions k (length held)) (sheetText k) (told-by (isLegal k) k held r after x);
         same = λ why q. same-by (isLegal k) k held after why (subst (λ (y : Written). SheetWritten k held y after) q x);
         text = λ n q. stands k held after n (subst (λ (y : Written). SheetWritten k held y after) q x);
       };

@@ -7,7 +7,7 @@ use mathlib.Core.Logic.{_↔_, _⊎_}
 use lib.ListN.{length, getD, take, drop}
 use Rattle.refusal.specs.declared.Refusal.{Refusal}
 use Rattle.refusal.specs.Refusals.{numberOf}
-use Rattle.refusal.specs.Conditions.{Condition, _when_, Told, refusal, answer, Answers}
+use Rattle.refusal.specs.Conditions.{Condition, _when_, Told, refusal, good, GivenExactly}
 use Rattle.maintenance.specs.declared.setting.Settings.{Settings}
 use Rattle.maintenance.specs.Settings.{accepted}
 use Rattle.text.specs.declared.written.Written.{Written}
@@ -21,7 +21,7 @@ use Rattle.sheet.specs.Output.{outputBy, Outputs}
 
 -- on paper: the settings, or the number of the refusal
 abbrev pub toldRead : SheetRead → Told Settings
-toldRead (ReadSettings k) = answer k
+toldRead (ReadSettings k) = good k
 toldRead (Refused why) = refusal (numberOf why)
 
 -- "Sheet writer: 11 for values no sheet may hold, then 12"
@@ -30,7 +30,7 @@ writerConditions k room = (11 when not (isLegal k)) ∷ (12 when isShort (sheetT
 
 -- what holds of every answer to settings and a buffer
 pub record Writes (k : Settings) (held : List ℕ) (r : Written) (after : List ℕ) : Type 0 where
-  pub answers : Answers (toldText r (sheetText k)) (writerConditions k (length held)) (sheetText k)
+  pub exactly : GivenExactly (toldText r (sheetText k)) (writerConditions k (length held)) (sheetText k)
   -- a refusal leaves the buffer with the contents it came with
   pub same : (why : Refusal) → r ≡ NotWritten why → after ≡ held
   -- a text is told by its length, stands at the buffer's start, and "bytes after the text are unchanged"
@@ -45,7 +45,7 @@ pub record OneOutcome : Type 0 where
 
 pub record Promise : Type 0 where
   -- accepted with these settings exactly when a sheet may hold them and the bytes are their text
-  pub accepted-exactly : (s : List ℕ) (r : SheetRead) → Reads s r → (k : Settings) → toldRead r ≡ answer k ↔ IsSheet s k
+  pub accepted-exactly : (s : List ℕ) (r : SheetRead) → Reads s r → (k : Settings) → toldRead r ≡ good k ↔ IsSheet s k
   -- refused exactly when they are no sheet, and by 11 alone
   pub refused-exactly : (s : List ℕ) (r : SheetRead) → Reads s r → (n : ℕ) → toldRead r ≡ refusal n ↔ ((n ≡ 11) × ((k : Settings) → IsSheet s k → ⊥))
   -- no two sheets share a text
@@ -54,7 +54,7 @@ pub record Promise : Type 0 where
   pub comma-or-dot : (s : List ℕ) (r : SheetRead) → Reads s r → (i : ℕ) → (getD s i 0 ≡ 44) ⊎ (getD s i 0 ≡ 46) → toldRead r ≡ refusal 11
   pub writes : (k : Settings) (held : List ℕ) (r : Written) (after : List ℕ) → SheetWritten k held r after → Writes k held r after
   -- "A written sheet reads back as the same six values"
-  pub reads-back : (k : Settings) (held : List ℕ) (n : ℕ) (after : List ℕ) → SheetWritten k held (Text n) after → (r : SheetRead) → Reads (take n after) r → toldRead r ≡ answer k
+  pub reads-back : (k : Settings) (held : List ℕ) (n : ℕ) (after : List ℕ) → SheetWritten k held (Text n) after → (r : SheetRead) → Reads (take n after) r → toldRead r ≡ good k
   -- "and an accepted sheet is written back as the same bytes", in any buffer that is long enough
   pub writes-back : (s : List ℕ) (k : Settings) → Reads s (ReadSettings k) → (held : List ℕ) (r : Written) (after : List ℕ) → length s ≤ length held → SheetWritten k held r after → (r ≡ Text (length s)) × (after ≡ s ++ drop (length s) held)
   -- the longest sheet has 84 bytes, there is one, and a buffer that large is never refused by 12

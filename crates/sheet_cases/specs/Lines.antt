@@ -7,7 +7,7 @@ use Rattle.text.specs.Figures.{hexadecimal, decimal}
 use Rattle.text.specs.Letters.{letters}
 use Rattle.text.specs.declared.written.Written.{Written}
 use Rattle.text.specs.declared.written.Written.the-variants.{Text, Refused as NotWritten}
-use Rattle.codec.specs.Table.{numberAt}
+use Rattle.codec_pages.specs.Table.{numberAt}
 use Rattle.maintenance.specs.declared.setting.Settings.{Settings}
 use Rattle.sheet.specs.declared.reading.Judged.{Judged}
 use Rattle.sheet.specs.declared.reading.Judged.the-variants.{Sheet, Wrong}
@@ -60,5 +60,5 @@ abbrev pub afterBuffer : Written → List ℕ
 afterBuffer w = lineFeed ++ afterText w
 
 -- the settings to be written, after the first byte
-abbrev pub settingsIn : List ℕ → Settings
-settingsIn r = record { receive = numberAt r 0 4; transmit = numberAt r 4 4; speed = numberAt r 8 4; voltage = numberAt r 12 4; warning = numberAt r 16 4; fault = numberAt r 20 4 }
+abbrev pub settingsAsked : List ℕ → Settings
+settingsAsked r = record { receive = numberAt r 0 4; transmit = numberAt r 4 4; speed = numberAt r 8 4; voltage = numberAt r 12 4; warning = numberAt r 16 4; fault = numberAt r 20 4 }

@@ -1,12 +1,12 @@
 // Answers the sheet cases on standard input, as docs/SHEET_CASES.md lays them out.
 ghost use mathlib.Core.Path.{_≡_};
 ghost use Rattle.show.specs.Lines.{Adds};
-ghost use Rattle.sheet_cases.specs.Lines.{settingText, sheetLine, wrongText, WrongAnswer, SheetAnswer, afterBuffer, settingsIn};
+ghost use Rattle.sheet_cases.specs.Lines.{settingText, sheetLine, wrongText, WrongAnswer, SheetAnswer, afterBuffer, settingsAsked};
 use door::LastWord;
 use door::turn::Turn;
-use door::turn::answered;
 use door::turn::begin;
 use door::turn::go_on;
+use door::turn::next_if;
 use maintenance::setting::Settings;
 use refusal::Refusal;
 use sheet::reading::Judged;
@@ -71,7 +71,7 @@ fn next_bytes(s: &mut [u8]) -> Turn {
     let input = door::read_input(s);
     let turn = go_on(input, s.len());
     match turn {
-        Turn::Next => answered(written(answer_read(show::empty(), s))),
+        Turn::Next => next_if(written(answer_read(show::empty(), s))),
         Turn::Over(word) => Turn::Over(word),
     }
 }
@@ -117,7 +117,7 @@ fn answer_written(k: Settings, out: &mut [u8]) -> bool {
 }
 
 fn settings_in(r: [u8; 26]) -> Settings
-    ensures { λ x. ⌜ x ≡ settingsIn r ⌝ }
+    ensures { λ x. ⌜ x ≡ settingsAsked r ⌝ }
 {
     Settings {
         receive: word32(Order::Big, r[0], r[1], r[2], r[3]),
@@ -136,7 +136,7 @@ fn next_room(r: [u8; 26]) -> Turn {
     if stops.len() < room {
         return Turn::Over(LastWord::Refused);
     }
-    answered(answer_written(settings_in(r), &mut stops[..room]))
+    next_if(answer_written(settings_in(r), &mut stops[..room]))
 }
 
 fn next_written() -> Turn {

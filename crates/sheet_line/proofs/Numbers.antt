@@ -14,7 +14,7 @@ use Rattle.maintenance.specs.declared.setting.Setting.{Setting}
 use Rattle.maintenance.specs.declared.setting.Setting.the-variants.{ReceiveId, TransmitId, Speed, Voltage, WarningLevel, FaultLevel}
 use Rattle.maintenance.specs.Settings.{speedNumber}
 use Rattle.text.specs.Figures.{hexadecimal, decimal}
-use Rattle.text.specs.Promise.{valueOf, numberFrom}
+use Rattle.text.specs.Promise.{figureValue, numberFrom}
 use Rattle.text.proofs.Figures.{lacks, lacks-at, hexadecimal-lacks, decimal-lacks}
 use Rattle.text.proofs.Promise.{promise as text}
 use Rattle.sheet_line.specs.Lines.{lineText, mayHold}
@@ -25,7 +25,7 @@ use Rattle.sheet_line.specs.Number.{isHexadecimal, base, widthOf, valueF
 -- the number of the figures up to a line feed, after figures with that number, as the loop counts it
 unfoldable pub scan : ℕ → ℕ → List ℕ → ℕ
 scan b n [] = n
-scan b n (c ∷ cs) = cond (eqb c 10 || leb 2147483648 n) n (scan b (n * b + valueOf c) cs)
+scan b n (c ∷ cs) = cond (eqb c 10 || leb 2147483648 n) n (scan b (n * b + figureValue c) cs)
 
 scan-none : (b n : ℕ) → scan b n [] ≡ n
 unfolding scan
@@ -33,11 +33,11 @@ scan-none b n = refl
 
 scan-ends : (b n c : ℕ) (cs : List ℕ) → (eqb c 10 || leb 2147483648 n) ≡ true → scan b n (c ∷ cs) ≡ n
 unfolding scan
-scan-ends b n c cs e = ap (λ (t : Bool). cond t n (scan b (n * b + valueOf c) cs)) e
+scan-ends b n c cs e = ap (λ (t : Bool). cond t n (scan b (n * b + figureValue c) cs)) e
 
-scan-more : (b n c : ℕ) (cs : List ℕ) → (eqb c 10 || leb 2147483648 n) ≡ false → scan b n (c ∷ cs) ≡ scan b (n * b + valueOf c) cs
+scan-more : (b n c : ℕ) (cs : List ℕ) → (eqb c 10 || leb 2147483648 n) ≡ false → scan b n (c ∷ cs) ≡ scan b (n * b + figureValue c) cs
 unfolding scan
-scan-more b n c cs e = ap (λ (t : Bool). cond t n (scan b (n * b + valueOf c) cs)) e
+scan-more b n c cs e = ap (λ (t : Bool). cond t n (scan b (n * b + figureValue c) cs)) e
 
 pub past-end : (b n i : ℕ) (s : List ℕ) → length s ≤ i → scan b n (drop i s) ≡ n
 past-end b n i s h = ap (scan b n) (drop-of-length-le s h) ∙ scan-none b n
@@ -45,11 +45,11 @@ past-end b n i s h = ap (scan b n) (drop-of-length-le s h) ∙ scan-none b n
 pub at-end : (b n i : ℕ) (s : List ℕ) → i < length s → (eqb (getD s i 0) 10 || leb 2147483648 n) ≡ true → scan b n (drop i s) ≡ n
 at-end b n i s h e = ap (scan b n) (drop-cons s i 0 h) ∙ scan-ends b n (getD s i 0) (drop (suc i) s) e
 
-pub one-on : (b n i : ℕ) (s : List ℕ) → i < length s → (eqb (getD s i 0) 10 || leb 2147483648 n) ≡ false → scan b n (drop i s) ≡ scan b (n * b + valueOf (getD s i 0)) (drop (i + 1) s)
+pub one-on : (b n i : ℕ) (s : List ℕ) → i < length s → (eqb (getD s i 0) 10 || leb 2147483648 n) ≡ false → scan b n (drop i s) ≡ scan b (n * b + figureValue (getD s i 0)) (drop (i + 1) s)
 one-on b n i s h e =
     ap (scan b n) (drop-cons s i 0 h)
     ∙ scan-more b n (getD s i 0) (drop (suc i) s) e
-    ∙ ap (λ (k : ℕ). scan b (n * b + valueOf (getD s i 0)) (drop k s)) (let q : suc i ≡ i + 1 = omega arith in q)
+    ∙ ap (λ (k : ℕ). scan b (n * b + figureValue (getD s i 0)) (drop k s)) (let q : suc i ≡ i + 1 = omega arith in q)
 
 -- ---- a row of figures
 
@@ -59,14 +59,14 @@ larger false n v = omega arith
 
 grows : (h : Bool) (n : ℕ) (figs : List ℕ) → n ≤ numberFrom (base h) n figs
 grows h n [] = le-refl n
-grows h n (c ∷ cs) = let one = larger h n (valueOf c) in let rest = grows h (n * base h + valueOf c) cs in omega (arith, one, rest)
+grows h n (c ∷ cs) = let one = larger h n (figureValue c) in let rest = grows h (n * base h + figureValue c) cs in omega (arith, one, rest)
 
 scan-figures : (h : Bool) (n : ℕ) (figs rest : List ℕ) → ((i : ℕ) → getD figs i 0 ≡ 10 → ⊥) → numberFrom (base h) n figs < 2147483648 → scan (base h) n (figs ++ (10 ∷ rest)) ≡ numberFrom (base h) n figs
 scan-figures h n [] rest none small = scan-ends (base h) n 10 rest refl
 scan-figures h n (c ∷ cs) rest none small =
     let below : n < 2147483648 = (let g = grows h n (c ∷ cs) in omega (arith, g, small)) in
     scan-more (base h) n c (cs ++ (10 ∷ rest)) (rw (ne-eqb c 10 (none 0), lt-leb 2147483648 n below) refl)
-    ∙ scan-figures h (n * base h + valueOf c) cs rest (λ i. none (suc i)) small
+    ∙ scan-figures h (n * base h + figureValue c) cs rest (λ i. none (suc i)) small
 
 pub scanned : (h : Bool) (t : List ℕ) (n : ℕ) → n ≡ scan (base h) 0 t → Counts (base h) t n
 scanned h t n q =

@@ -4,14 +4,14 @@ ghost use mathlib.Core.Bool.{true};
 ghost use mathlib.Core.List.{List, _++_};
 ghost use Prim.Native.Nat.{ℕ, _+_, _*_, _≤_, _<_};
 ghost use lib.ListN.{drop};
-ghost use Rattle.text.specs.Promise.{valueOf};
+ghost use Rattle.text.specs.Promise.{figureValue};
 ghost use Rattle.sheet_line.specs.Lines.{mayHold, lineText};
 ghost use Rattle.sheet_line.specs.Number.{isHexadecimal, base, widthOf, speedFor, valueFor, Counts};
 use maintenance::setting::Setting;
 
 // The value of a figure; of another byte, any number.
 fn value_of(figure: u8) -> u64
-    ensures { λ r. ⌜ (r ≡ valueOf figure) × (r < 256) ⌝ }
+    ensures { λ r. ⌜ (r ≡ figureValue figure) × (r < 256) ⌝ }
 {
     if figure < 48 {
         return 0;
@@ -31,7 +31,7 @@ fn base_of(hexadecimal: bool) -> u64
 // The number with one more figure.
 fn more(n: u64, hexadecimal: bool, figure: u8) -> u64
     requires { ⌜ n < 2147483648 ⌝ }
-    ensures { λ r. ⌜ r ≡ n * base hexadecimal + valueOf figure ⌝ }
+    ensures { λ r. ⌜ r ≡ n * base hexadecimal + figureValue figure ⌝ }
 {
     n * base_of(hexadecimal) + value_of(figure)
 }

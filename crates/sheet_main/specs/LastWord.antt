@@ -10,8 +10,8 @@ pub record SomeSheet (s : List ℕ) : Type 0 where
   pub settings : Settings
   pub sheet : IsSheet s settings
 
-abbrev pub Told : List ℕ → LastWord → Type 0
-Told s Complete = SomeSheet s
-Told s Refused = (k : Settings) → IsSheet s k → ⊥
-Told s Unread = ⊥
-Told s Cut = Unit {0}
+abbrev pub SaidOfSheet : List ℕ → LastWord → Type 0
+SaidOfSheet s Complete = SomeSheet s
+SaidOfSheet s Refused = (k : Settings) → IsSheet s k → ⊥
+SaidOfSheet s Unread = ⊥
+SaidOfSheet s Cut = Unit {0}

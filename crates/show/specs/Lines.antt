@@ -9,7 +9,7 @@ use Rattle.refusal.specs.Refusals.{numberOf}
 use Rattle.text.specs.Figures.{hexadecimal, decimal}
 use Rattle.text.specs.Letters.{letters}
 use Rattle.text.specs.Put.{Put}
-use Rattle.codec.specs.declared.frame.Frame.{Frame}
+use Rattle.codec_pages.specs.declared.frame.Frame.{Frame}
 use Rattle.show.specs.declared.Line.{Line}
 
 abbrev pub noLine : Line

@@ -5,7 +5,7 @@ ghost use mathlib.Core.List.{[], _∷_};
 ghost use Prim.Native.Nat.{_%_};
 ghost use Rattle.text.specs.Figures.{figure as figureOf, hexadecimal, decimal as decimalFigures};
 ghost use Rattle.show.specs.Lines.{Adds, lineFeed, valueText, refusedText, identifierText, dataText, frameText, noLine};
-use codec::frame::Frame;
+use codec_pages::frame::Frame;
 use refusal::Refusal;
 use text::hex_figure;
 

@@ -12,7 +12,7 @@ use borrow.Author.Tests.{lt-ltb, le-ltb, ltb-true, ltb-false}
 use Rattle.words.proofs.Tests.{decided}
 use Rattle.text.specs.Figures.{figure, hexadecimal, decimalUpTo, decimal}
 use Rattle.text.specs.Put.{Put}
-use Rattle.text.specs.Promise.{Holds, valueOf, numberFrom, Promise}
+use Rattle.text.specs.Promise.{Holds, figureValue, numberFrom, Promise}
 use Rattle.text.proofs.Put.{sets-out, place-within, kept-length}
 use Rattle.text.proofs.Figures.{hexadecimal-length, decimal-length, decimal-below}
 
@@ -28,18 +28,18 @@ held before at text next after b x =
 
 -- ---- figures
 
-value-figure : (d : ℕ) → d < 16 → valueOf (figure d) ≡ d
+value-figure : (d : ℕ) → d < 16 → figureValue (figure d) ≡ d
 value-figure d h =
     decided (ltb d 10)
     (λ t. let small = ltb-true d 10 t in rw (t, lt-ltb (48 + d) 58 (omega (arith, small))) (omega arith))
     (λ t. let large = ltb-false d 10 t in rw (t, le-ltb (55 + d) 58 (omega (arith, large))) (omega arith))
 
-value-digit : (d : ℕ) → d < 10 → valueOf (48 + d) ≡ d
+value-digit : (d : ℕ) → d < 10 → figureValue (48 + d) ≡ d
 value-digit d h = rw (lt-ltb (48 + d) 58 (omega (arith, h))) (omega arith)
 
-one-more : (base n : ℕ) (t : List ℕ) (c : ℕ) → numberFrom base n (t ++ (c ∷ [])) ≡ numberFrom base n t * base + valueOf c
+one-more : (base n : ℕ) (t : List ℕ) (c : ℕ) → numberFrom base n (t ++ (c ∷ [])) ≡ numberFrom base n t * base + figureValue c
 one-more base n [] c = refl
-one-more base n (b ∷ t) c = one-more base (n * base + valueOf b) t c
+one-more base n (b ∷ t) c = one-more base (n * base + figureValue b) t c
 
 hex-number : (width n : ℕ) → n < 16 ^ width → numberFrom 16 0 (hexadecimal width n) ≡ n
 unfolding hexadecimal
@@ -48,7 +48,7 @@ hex-number (suc width) n h =
     one-more 16 0 (hexadecimal width (n / 16)) (figure (n % 16))
     ∙ (let rest = hex-number width (n / 16) (omega (arith, h, pow-suc 16 width)) in let last = value-figure (n % 16) (omega arith) in omega (arith, rest, last))
 
-alone : (n : ℕ) → n < 10 → 0 + valueOf (48 + n % 10) ≡ n
+alone : (n : ℕ) → n < 10 → 0 + figureValue (48 + n % 10) ≡ n
 alone n h = let digit = value-digit (n % 10) (omega arith) in omega (arith, digit, h)
 
 up-to-number : (k n : ℕ) → n < 10 ^ suc k → numberFrom 10 0 (decimalUpTo k n) ≡ n

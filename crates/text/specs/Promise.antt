@@ -20,13 +20,13 @@ pub record Holds (before : List ℕ) (at : ℕ) (text : List ℕ) (next : ℕ) (
 -- ---- figures
 
 -- the value of a figure: 0 to 9 begin at 48, A to F at 65
-abbrev pub valueOf : ℕ → ℕ
-valueOf c = cond (ltb c 58) (c - 48) (c - 55)
+abbrev pub figureValue : ℕ → ℕ
+figureValue c = cond (ltb c 58) (c - 48) (c - 55)
 
 -- the number that a row of figures stands for, in a base, after figures with that value
 abbrev pub numberFrom : ℕ → ℕ → List ℕ → ℕ
 numberFrom base n [] = n
-numberFrom base n (c ∷ cs) = numberFrom base (n * base + valueOf c) cs
+numberFrom base n (c ∷ cs) = numberFrom base (n * base + figureValue c) cs
 
 pub record Promise : Type 0 where
   -- a buffer is a slice, and no slice has 2 ^ 64 bytes

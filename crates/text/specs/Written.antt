@@ -9,7 +9,7 @@ use lib.Seq.{sets}
 use Rattle.refusal.specs.declared.Refusal.{Refusal}
 use Rattle.refusal.specs.declared.Refusal.the-variants.{ShortBuffer}
 use Rattle.refusal.specs.Refusals.{numberOf}
-use Rattle.refusal.specs.Conditions.{Told, refusal, answer}
+use Rattle.refusal.specs.Conditions.{Told, refusal, good}
 use Rattle.text.specs.declared.written.Written.{Written}
 use Rattle.text.specs.declared.written.Written.the-variants.{Text, Refused}
 use Rattle.text.specs.Figures.{decimal}
@@ -37,7 +37,7 @@ pub record NotWritten (why : Refusal) (held : List ℕ) (answer : Written) (afte
 
 -- on paper: the number of the refusal, or the text
 abbrev pub toldText : Written → List ℕ → Told (List ℕ)
-toldText (Text n) text = answer text
+toldText (Text n) text = good text
 toldText (Refused why) text = refusal (numberOf why)
 
 -- "`refused`, a space, the number in decimal"

@@ -1,7 +1,7 @@
 -- `monitor_cases::question` meets its contract: by whether a monitor is on. Assumes nothing.
 use mathlib.Core.Path.{ap, _∙_}
 use Rattle.show.proofs.Adding.{and, adds-as}
-use Rattle.rules.specs.declared.time.Stamp.{Stamp}
+use Rattle.time.specs.declared.Stamp.{Stamp}
 use Rattle.monitor.specs.Bench.{uptimeAsked}
 use Rattle.monitor_cases.specs.Lines.{uptimeText}
 use Rattle.monitor_cases.proofs.question.Statement.{statement}

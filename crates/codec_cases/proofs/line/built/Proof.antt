@@ -8,7 +8,7 @@ returns : tie.Need-returns
 returns c = rw (c .before .before .enum-told .given .1) (and (c .before .frame .ensures) (c .ended .ensures))
 
 returns-2 : tie.Need-returns-2
-returns-2 c = rw (c .before .before .before .answer .given .1) (and (c .before .refused .ensures) (c .ended2 .ensures))
+returns-2 c = rw (c .before .before .before .acceptance .given .1) (and (c .before .refused .ensures) (c .ended2 .ensures))
 
 pub built-spec : {M : Type 1} → statement M
 built-spec =

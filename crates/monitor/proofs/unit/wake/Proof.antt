@@ -1,6 +1,6 @@
 -- `monitor::unit::wake` meets its contract: by the phase; the sum cannot pass the stamp of the event. Assumes nothing.
 use mathlib.Core.Path.{sym, _∙_}
-use Rattle.monitor.proofs.Times.{limit-fits}
+use Rattle.time.proofs.Times.{limit-fits}
 use borrow.Author.Needs.{needs}
 use Rattle.monitor.proofs.unit.wake.Statement.{statement}
 use Rattle.monitor.proofs.unit.wake.Tie as tie

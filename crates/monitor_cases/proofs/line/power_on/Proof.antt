@@ -7,7 +7,7 @@ returns : tie.Need-returns
 returns c = rw (c .before .before .enum-told .given .1) (c .text .ensures)
 
 returns-2 : tie.Need-returns-2
-returns-2 c = rw (c .before .before .answer .given .1) (c .refused .ensures)
+returns-2 c = rw (c .before .before .acceptance .given .1) (c .refused .ensures)
 
 pub power-on-spec : {M : Type 1} → statement M
 power-on-spec =
