@@ -102,7 +102,7 @@ six-is k (Word mux w) h u =
 six-is k (Temperature z) h u = temperature-six k z u h
 six-is k (WorkingVoltage v) h u = voltage-six k v u h
 
--- ---- the answers: 1, 3, 6 in that order, or the frame
+-- ---- what is built: 1, 3, 6 in that order, or the frame
 
 abbrev pub inOrder : Bool → Bool → Bool → Built → Built
 inOrder one three six b = cond one (notBuilt OverLimits) (cond three (notBuilt NotListed) (cond six (notBuilt DoesNotFit) b))

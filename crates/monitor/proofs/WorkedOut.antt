@@ -3,9 +3,7 @@ use mathlib.Core.Path.{_≡_, refl, sym, ap, _∙_}
 use mathlib.Core.List.{List}
 use borrow.Author.Tests.{le-ltb}
 use Rattle.maintenance.specs.Settings.{accepted}
-use Rattle.time.specs.declared.Stamp.{Stamp}
 use Rattle.rules.specs.declared.unit.Monitor.{Monitor}
-use Rattle.time.specs.Times.{ticksBetween}
 use Rattle.rules.specs.Rules.{woken, unitAfter}
 use Rattle.rules.specs.Events.{Event, PowerOn, lastStamp, Run}
 use Rattle.rules.specs.Demand.{Demand}
@@ -42,7 +40,7 @@ worked-out p h r =
       start = λ t l. ap (λ (m : Monitor). woken t m .start) (unit-there p h r) ∙ unit .start t l;
       uptime = λ t l.
           ap (uptimeAsked t) (bench-after p h r)
-          ∙ rw (le-ltb (t .0) (lastStamp p h .0) l) (ap (λ (s : Stamp). Ticked (ticksBetween s t)) (unit .start t l));
+          ∙ rw (le-ltb (t .0) (lastStamp p h .0) l) (ap Ticked (unit .uptime t l));
     }
 
 bench-same : (p : PowerOn) (h : List Event) → Run p h → Same p (stateOf (λ h. unitAfter p h)) (stateOf (λ h. after p h .monitor)) h

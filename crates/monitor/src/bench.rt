@@ -31,7 +31,7 @@ pub struct PoweredOn {
     pub bench: Bench,
 }
 
-// An event's answer, the bench after it, and the reply.
+// Whether an event was accepted, the bench after it, and the reply.
 pub struct Outcome {
     pub acceptance: Acceptance,
     pub bench: Bench,
@@ -98,7 +98,7 @@ pub fn power_on(at: Stamp, serial: [u8; 16], rating: u16, settings: Settings) ->
 
 // ---- events
 
-fn refused(b: Bench, why: Refusal) -> Outcome
+fn refused_by(b: Bench, why: Refusal) -> Outcome
     ensures { λ r. ⌜ r ≡ refusedBy why b ⌝ }
 {
     Outcome {
@@ -108,7 +108,7 @@ fn refused(b: Bench, why: Refusal) -> Outcome
     }
 }
 
-fn accepted(turn: Turn, at: Stamp) -> Outcome
+fn accepted_at(turn: Turn, at: Stamp) -> Outcome
     ensures { λ r. ⌜ r ≡ acceptedAt at turn ⌝ }
 {
     let monitor = turn.monitor;
@@ -125,13 +125,13 @@ pub fn frame_event(b: Bench, at: Stamp, storing: bool, f: Frame) -> Outcome
 {
     let over = over_limits(f);
     if over {
-        return refused(b, Refusal::OverLimits);
+        return refused_by(b, Refusal::OverLimits);
     }
     let early = is_earlier(at, b.last);
     if early {
-        return refused(b, Refusal::EarlyStamp);
+        return refused_by(b, Refusal::EarlyStamp);
     }
-    accepted(unit::frame(b.monitor, at, storing, f), at)
+    accepted_at(unit::frame(b.monitor, at, storing, f), at)
 }
 
 pub fn reset_event(b: Bench, at: Stamp) -> Outcome
@@ -139,9 +139,9 @@ pub fn reset_event(b: Bench, at: Stamp) -> Outcome
 {
     let early = is_earlier(at, b.last);
     if early {
-        return refused(b, Refusal::EarlyStamp);
+        return refused_by(b, Refusal::EarlyStamp);
     }
-    accepted(unit::reset(b.monitor, at), at)
+    accepted_at(unit::reset(b.monitor, at), at)
 }
 
 // ---- the uptime question

@@ -13,7 +13,7 @@ use Rattle.log.specs.Check.{checked}
 use Rattle.listing.specs.declared.output.Rest.{Rest}
 use Rattle.listing.specs.Output.{restIn}
 
--- by how the log was answered
+-- by whether the log is accepted
 abbrev pub wordFor : Acceptance → LastWord
 wordFor Accepted = Complete
 wordFor (Refused why) = No

@@ -7,7 +7,7 @@ use listing::output::next_part;
 use listing::output::whole;
 use refusal::Acceptance;
 
-// The last word where nothing more is written: by the log's answer if nothing is left, and cut if something is.
+// The last word where nothing more is written: by whether the log is accepted if nothing is left, and cut if something is.
 fn last_word(rest: Rest) -> LastWord
     ensures { λ r. ⌜ r ≡ wordOn rest ⌝ }
 {

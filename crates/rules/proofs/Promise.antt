@@ -1,6 +1,8 @@
 -- The rules keep their promise. Assumes nothing.
-use mathlib.Core.Path.{sym}
+use mathlib.Core.Path.{sym, ap}
 use mathlib.Core.List.{List}
+use Rattle.time.specs.declared.Stamp.{Stamp}
+use Rattle.time.specs.Times.{ticksBetween}
 use Rattle.maintenance.proofs.Settings.{parts-accepted}
 use Rattle.rules.specs.Events.{Event, PowerOn, IsAccepted, Run}
 use Rattle.rules.specs.Rules.{unitAfter}
@@ -25,6 +27,7 @@ worked-out p h r =
       reply = unit-reply p h;
       session = unit-session p h r;
       start = unit-start p h r;
+      uptime = λ t l. ap (λ (s : Stamp). ticksBetween s t) (unit-start p h r t l);
     }
 
 -- the unit says what the reading says

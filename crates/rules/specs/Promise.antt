@@ -16,9 +16,9 @@ use Rattle.rules.specs.declared.unit.Pending.the-variants.{Nothing}
 use Rattle.rules.specs.declared.unit.Phase.{Phase}
 use Rattle.rules.specs.declared.unit.Phase.the-variants.{Outside, InSession}
 use Rattle.rules.specs.declared.unit.Monitor.{Monitor}
-use Rattle.time.specs.Times.{later}
+use Rattle.time.specs.Times.{later, ticksBetween}
 use Rattle.rules.specs.Events.{Event, PowerOn, IsAccepted, lastStamp, Run}
-use Rattle.rules.specs.Rules.{turn, started, woken, heard, framed, wasReset, step, unitAfter}
+use Rattle.rules.specs.Rules.{turn, started, woken, heard, framed, wasReset, uptimeOf, step, unitAfter}
 use Rattle.rules.specs.Replies.{OutsideReplies, SessionReplies}
 use Rattle.rules.specs.History.{storedAfter, inSession, lastStart, replyTo}
 use Rattle.rules.specs.Demand.{Reading, Demand, lookingBack}
@@ -66,7 +66,7 @@ isOpen (InSession s) = true
 abbrev pub stateOf : (List Event → Monitor) → Reading
 stateOf unit = record { stored = λ h. unit h .stored; session = λ h t. isOpen (woken t (unit h) .phase); start = λ h t. woken t (unit h) .start }
 
--- after a run the unit, its next reply and its last start are those worked out from the history
+-- after a run the unit, its next reply, its last start and its uptime are those worked out from the history
 pub record WorkedOut (p : PowerOn) (h : List Event) : Type 0 where
   pub serial : unitAfter p h .serial ≡ p .serial
   pub rating : unitAfter p h .rating ≡ p .rating
@@ -74,6 +74,7 @@ pub record WorkedOut (p : PowerOn) (h : List Event) : Type 0 where
   pub reply : (e : Event) → Run p (e ∷ h) → step e (unitAfter p h) .reply ≡ replyTo p h e
   pub session : (t : Stamp) → lastStamp p h .0 ≤ t .0 → isOpen (woken t (unitAfter p h) .phase) ≡ inSession p h t
   pub start : (t : Stamp) → lastStamp p h .0 ≤ t .0 → woken t (unitAfter p h) .start ≡ lastStart p h t
+  pub uptime : (t : Stamp) → lastStamp p h .0 ≤ t .0 → uptimeOf t (unitAfter p h) ≡ ticksBetween (lastStart p h t) t
 
 -- the demand in its own words: of the unit, and of the reading that looks back. The words leave no choice.
 pub record Demand3 (p : PowerOn) : Type 0 where
