@@ -19,6 +19,7 @@ pages =
     record {
       reports = record { read = refl; built = refl; told = refl; found = refl };
       requests = record { read = refl; built = refl; told = refl; found = refl };
+      sent = refl;
     }
 
 words : (k : Kind) (mux : ℕ) → noWord (rowOf k mux) ≡ false ↔ (0x01 ≤ mux) × (mux ≤ 0x0B)

@@ -18,7 +18,7 @@ use Rattle.codec_pages.specs.declared.request.Request.the-variants.{Read
 use Rattle.codec_pages.specs.declared.request.RequestReading.the-variants.{Read as Asked}
 use Rattle.codec_pages.specs.Frames.{muxOf, asBuilt}
 use Rattle.refusal.specs.Conditions.{Told, good}
-use Rattle.codec_pages.specs.Told.{Values, toldReport, toldRequest}
+use Rattle.codec_pages.specs.Told.{Values, toldReport, toldRequest, toldBuilt}
 use Rattle.codec_pages.specs.Reports.{readReport}
 use Rattle.codec_pages.specs.Building.{buildReport}
 use Rattle.codec_pages.specs.Requests.{readRequest, buildRequest}
@@ -127,3 +127,5 @@ pub record InBytes {Reading Said : Type 0} (reads : Kind → Frame → Reading) 
 pub record Pages : Type 0 where
   pub reports : InBytes (λ k f. readReport k 0x0A100100 f) Read (λ k r. buildReport k 0x0A100100 r) toldReport tableReport (ofBoth Sim100 ++ (ofBoth Sim101 ++ (ofSim100 ++ ofSim101)))
   pub requests : InBytes (λ k f. readRequest k 0x0A100101 f) Asked (λ k r. buildRequest k 0x0A100101 r) toldRequest tableRequest (askedOf Sim100 1 ++ (askedOf Sim101 3 ++ askedOfOne))
+  -- a built frame is told by its identifier and its bytes, as many as its length says
+  pub sent : toldBuilt (buildReport Sim100 0x0A100100 (WorkingVoltage 600)) ≡ good (0x0A100100, pos 0xF0 ∷ pos 0x02 ∷ pos 0x58 ∷ [])
