@@ -19,6 +19,7 @@ pages =
     record {
       reports = record { read = refl; built = refl; told = refl; found = refl };
       requests = record { read = refl; built = refl; told = refl; found = refl };
+      ignored = record { past-3 = refl; past-4 = refl; past-5 = refl; in-e5 = refl; in-requests = refl; past-1 = refl };
       sent = refl;
     }
 
@@ -27,8 +28,8 @@ words k mux = (word-only k mux, λ h. word-listed k mux (h .0) (h .1))
 
 read-borders : (k : Kind) → ReadBorders k
 unfolding readReport readRequest entryOf
-read-borders Sim100 = record { one = refl; not-one = refl; two = refl; three = refl; words = words Sim100; four = refl; one-first = refl; two-first = refl }
-read-borders Sim101 = record { one = refl; not-one = refl; two = refl; three = refl; words = words Sim101; four = refl; one-first = refl; two-first = refl }
+read-borders Sim100 = record { one = refl; one-asked = refl; not-one = refl; two = refl; two-asked = refl; three = refl; words = words Sim100; four = refl; one-first = refl; two-first = refl }
+read-borders Sim101 = record { one = refl; one-asked = refl; not-one = refl; two = refl; two-asked = refl; three = refl; words = words Sim101; four = refl; one-first = refl; two-first = refl }
 
 build-borders : (k : Kind) → BuildBorders k
 unfolding buildReport buildRequest entryOf
@@ -42,5 +43,5 @@ borders =
       read = read-borders;
       read-one = record { three = refl; four-sim100 = refl; four-sim101 = refl; five = refl; not-five = refl; four-first = refl };
       built = build-borders;
-      built-one = record { three-sim100 = refl; three-sim101 = refl; six-sim100 = refl; not-six-sim100 = refl; six-sim101 = refl; not-six-sim101 = refl };
+      built-one = record { one-first = refl; three-sim100 = refl; three-sim101 = refl; six-sim100 = refl; not-six-sim100 = refl; six-sim101 = refl; not-six-sim101 = refl };
     }

@@ -34,7 +34,7 @@ apart x m n =
     refuted (leb x m && leb m x)
     (λ t. let both = and-yes (leb x m) (leb m x) t in n (omega (arith, leb→le x m (both .0), leb→le m x (both .1))))
 
--- ---- lineIn
+-- ---- entryIn
 
 -- no row has a multiplexer strictly between the two
 abbrev pub clear : List Entry → ℕ → ℕ → Bool

@@ -22,24 +22,24 @@ use Rattle.codec_pages.specs.Requests.{unlistedRequest}
 
 abbrev pub isNone : Option Entry → Bool
 isNone none = true
-isNone (some l) = false
+isNone (some e) = false
 
 -- what the table has for a multiplexer; where it has no entry, nothing and length 0
 abbrev pub reportLength : Option Entry → ℕ
 reportLength none = 0
-reportLength (some l) = l .report
+reportLength (some e) = e .report
 
 abbrev pub requestLengthOf : Option Entry → ℕ
 requestLengthOf none = 0
-requestLengthOf (some l) = l .request
+requestLengthOf (some e) = e .request
 
 abbrev pub reportFields : Option Entry → List Field
 reportFields none = []
-reportFields (some l) = l .fields
+reportFields (some e) = e .fields
 
 abbrev pub requestFields : Option Entry → List Field
 requestFields none = []
-requestFields (some l) = l .asked
+requestFields (some e) = e .asked
 
 -- ---- reading
 

@@ -118,14 +118,24 @@ askedOfOne =
 -- ---- the pages
 
 -- each frame reads as what it says, that is built as the frame, and its values are those that are told of it and found by the table
-pub record InBytes {Reading Said : Type 0} (reads : Kind → Frame → Reading) (asRead : Said → Reading) (builds : Kind → Said → Built) (tells : Reading → Told Values) (finds : Kind → Frame → Values) (samples : List (Sample Said)) : Type 0 where
+pub record InBytes {Result Said : Type 0} (reads : Kind → Frame → Result) (asRead : Said → Result) (builds : Kind → Said → Built) (tells : Result → Told Values) (finds : Kind → Frame → Values) (samples : List (Sample Said)) : Type 0 where
   pub read : map (λ s. reads (s .kind) (s .frame)) samples ≡ map (λ s. asRead (s .says)) samples
   pub built : map (λ s. builds (s .kind) (s .says)) samples ≡ map (λ s. asBuilt (s .frame)) samples
   pub told : map (λ s. tells (asRead (s .says))) samples ≡ map (λ s. good (s .values)) samples
   pub found : map (λ s. finds (s .kind) (s .frame)) samples ≡ map (λ s. s .values) samples
 
+-- "ignored on reading": bytes past the length, bytes 3-7 of a SIM100 E5, bytes 1 and 2 of a SIM101 request
+pub record Ignored : Type 0 where
+  pub past-3 : toldReport (readReport Sim100 0x0A100100 (reportFrame 3 (0xF0 ∷ 0x02 ∷ 0x58 ∷ 0xFF ∷ 0xFF ∷ 0xFF ∷ 0xFF ∷ 0xFF ∷ []))) ≡ good (0xF0, pos 600 ∷ [])
+  pub past-4 : toldReport (readReport Sim101 0x0A100100 (reportFrame 4 (0xE5 ∷ 0xC0 ∷ 0x12 ∷ 0x34 ∷ 0xFF ∷ 0xFF ∷ 0xFF ∷ 0xFF ∷ []))) ≡ good (0xE5, pos 192 ∷ pos 0x1234 ∷ [])
+  pub past-5 : toldReport (readReport Sim101 0x0A100100 (reportFrame 5 (0x80 ∷ 0xFF ∷ 0xFF ∷ 0xFC ∷ 0x18 ∷ 0xFF ∷ 0xFF ∷ 0xFF ∷ []))) ≡ good (0x80, negsuc 999 ∷ [])
+  pub in-e5 : toldReport (readReport Sim100 0x0A100100 (reportFrame 8 (0xE5 ∷ 0xC0 ∷ 0xFF ∷ 0x01 ∷ 0x02 ∷ 0x03 ∷ 0x04 ∷ 0x05 ∷ []))) ≡ good (0xE5, pos 192 ∷ pos 255 ∷ [])
+  pub in-requests : toldRequest (readRequest Sim101 0x0A100101 (requestFrame 3 (0xE0 ∷ 0xFF ∷ 0xFF ∷ 0xFF ∷ 0xFF ∷ 0xFF ∷ 0xFF ∷ 0xFF ∷ []))) ≡ good (0xE0, [])
+  pub past-1 : toldRequest (readRequest Sim100 0x0A100101 (requestFrame 1 (0x0B ∷ 0xFF ∷ 0xFF ∷ 0xFF ∷ 0xFF ∷ 0xFF ∷ 0xFF ∷ 0xFF ∷ []))) ≡ good (0x0B, [])
+
 pub record Pages : Type 0 where
   pub reports : InBytes (λ k f. readReport k 0x0A100100 f) Read (λ k r. buildReport k 0x0A100100 r) toldReport tableReport (ofBoth Sim100 ++ (ofBoth Sim101 ++ (ofSim100 ++ ofSim101)))
   pub requests : InBytes (λ k f. readRequest k 0x0A100101 f) Asked (λ k r. buildRequest k 0x0A100101 r) toldRequest tableRequest (askedOf Sim100 1 ++ (askedOf Sim101 3 ++ askedOfOne))
+  pub ignored : Ignored
   -- a built frame is told by its identifier and its bytes, as many as its length says
   pub sent : toldBuilt (buildReport Sim100 0x0A100100 (WorkingVoltage 600)) ≡ good (0x0A100100, pos 0xF0 ∷ pos 0x02 ∷ pos 0x58 ∷ [])

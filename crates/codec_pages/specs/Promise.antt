@@ -61,7 +61,7 @@ ReportBuildsBack = (k : Kind) (expected : ℕ) (f : Frame) (r : Report) → Held
 abbrev pub RequestBuildsBack : Type 0
 RequestBuildsBack = (k : Kind) (expected : ℕ) (f : Frame) (r : Request) → HeldFrame f → readRequest k expected f ≡ Asked r → buildRequest k expected r ≡ asBuilt (cleared (cond (isSim100 k) (f .length) 1) f)
 
--- "Bytes past the length are ignored on reading.": with zeros there, and in the two places above, the same is read
+-- "Bytes past the length are ignored on reading [..]": with zeros there, and in the two places above, the same is read
 abbrev pub ReportPastLength : Type 0
 ReportPastLength = (k : Kind) (expected : ℕ) (f : Frame) (r : Report) → HeldFrame f → HeldReport r → readReport k expected f ≡ Read r → readReport k expected (cleared (cond (isSim100 k && eqb (muxOf f) 0xE5) 3 (f .length)) f) ≡ Read r
 

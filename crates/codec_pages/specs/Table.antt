@@ -122,11 +122,11 @@ abbrev pub reportTable : Kind → List Entry
 reportTable k = common k ++ own k
 
 abbrev pub covers : Entry → ℕ → Bool
-covers l mux = leb (l .first) mux && leb mux (l .last)
+covers e mux = leb (e .first) mux && leb mux (e .last)
 
 abbrev pub entryIn : List Entry → ℕ → Option Entry
 entryIn [] mux = none
-entryIn (l ∷ ls) mux = cond (covers l mux) (some l) (entryIn ls mux)
+entryIn (e ∷ es) mux = cond (covers e mux) (some e) (entryIn es mux)
 
 -- the entry of a multiplexer, if the kind lists it
 unfoldable pub entryOf : Kind → ℕ → Option Entry
@@ -135,7 +135,7 @@ entryOf k mux = entryIn (reportTable k) mux
 -- 3: "a multiplexer not listed for that device kind"
 abbrev pub asRow : Option Entry → Lookup
 asRow none = Refused NotListed
-asRow (some l) = Listed (l .row) (l .report) (l .request)
+asRow (some e) = Listed (e .row) (e .report) (e .request)
 
 abbrev pub rowOf : Kind → ℕ → Lookup
 rowOf k mux = asRow (entryOf k mux)
@@ -143,7 +143,7 @@ rowOf k mux = asRow (entryOf k mux)
 -- the row of one of E0 to E5, which are the first six entries of either kind
 abbrev pub measuredBy : Option Entry → Row
 measuredBy none = MuxE5
-measuredBy (some l) = l .row
+measuredBy (some e) = e .row
 
 abbrev pub measurementRow : ℕ → Row
 measurementRow mux = measuredBy (entryIn (take 6 (common Sim100)) mux)

@@ -9,13 +9,13 @@ use Rattle.text.specs.Figures.{hexadecimal, decimalUpTo}
 use Rattle.log.specs.Layout.{isLaidOut}
 use Rattle.log.specs.Block.{blockIn, isLegal}
 use Rattle.log.specs.Record.{recordIn, zeros, isRecord}
-use Rattle.log.specs.Check.{historyOf, recordsAnswer}
+use Rattle.log.specs.Check.{historyOf, recordsAcceptance}
 use Rattle.listing.specs.Lines.{spaced}
 use Rattle.listing.specs.Listing.{linesOf, listingOf}
 use Rattle.marked.specs.Marked.{Marked}
 
 pub marked : Marked
-unfolding entryOf readReport readRequest message storedAfter hexadecimal decimalUpTo isLaidOut blockIn isLegal recordIn zeros isRecord historyOf recordsAnswer spaced linesOf listingOf
+unfolding entryOf readReport readRequest message storedAfter hexadecimal decimalUpTo isLaidOut blockIn isLegal recordIn zeros isRecord historyOf recordsAcceptance spaced linesOf listingOf
 marked = (
   refl,
   (

@@ -1,18 +1,17 @@
 -- Stamps and ticks keep their promise. Assumes nothing.
-use Prim.Native.Nat.{suc, _+_}
+use Prim.Native.Nat.{_+_}
 use mathlib.Core.Path.{refl}
 use native.Mathlib.Omega.{arith}
-use borrow.Author.Tests.{lt-ltb, le-ltb}
+use borrow.Author.Tests.{lt-ltb, le-ltb, ltb-true}
 use Rattle.time.specs.Promise.{Promise}
 
 pub promise : Promise
 promise =
     record {
-      equal = λ ms. le-ltb ms ms (omega arith);
-      one-before = λ ms. lt-ltb ms (suc ms) (omega arith);
-      one-after = λ ms. le-ltb (suc ms) ms (omega arith);
-      at-limit = λ ms limit. le-ltb (ms + limit) (ms + limit) (omega arith);
-      past-limit = λ ms limit. lt-ltb (ms + limit) (suc (ms + limit)) (omega arith);
+      earlier-means = λ a b. (ltb-true a b, lt-ltb a b);
+      equal = λ a. le-ltb a a (omega arith);
+      past-means = λ a limit b. (ltb-true (a + limit) b, lt-ltb (a + limit) b);
+      at-limit = λ a limit. le-ltb (a + limit) (a + limit) (omega arith);
       nine-ms = refl;
       ten-ms = refl;
       a-second = refl;
