@@ -2,6 +2,7 @@
 pub mod Table
 pub mod Found
 pub mod Pages
+pub mod Limits
 pub mod Reading
 pub mod Building
 pub mod ReadsBack

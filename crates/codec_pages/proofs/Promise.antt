@@ -2,6 +2,7 @@
 use mathlib.Core.Path.{refl}
 use Rattle.codec_pages.specs.Promise.{Promise}
 use Rattle.codec_pages.proofs.Pages.{pages, borders}
+use Rattle.codec_pages.proofs.Limits.{limits}
 use Rattle.codec_pages.proofs.Reading.{report-read, request-read}
 use Rattle.codec_pages.proofs.Building.{report-built, request-built, words-built, report-first, request-first}
 use Rattle.codec_pages.proofs.ReadsBack.{report-reads-back, request-reads-back}
@@ -12,6 +13,7 @@ promise =
     record {
       pages = pages;
       borders = borders;
+      limits = limits;
       reports-first = report-first;
       requests-first = request-first;
       minus-100 = refl;

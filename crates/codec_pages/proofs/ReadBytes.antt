@@ -1,7 +1,7 @@
 -- The bytes of a frame that was read: they are the parts that were read of it, and every value fits its field. Assumes nothing.
 use Prim.Native.Nat.{ℕ, zero, suc, _+_, _-_, _<_, _≤_}
-use mathlib.Core.Path.{_≡_, refl, ap, sym, _∙_}
-use mathlib.Core.Bool.{true, false, not, _&&_, _||_}
+use mathlib.Core.Path.{_≡_, refl, ap, sym, subst, _∙_}
+use mathlib.Core.Bool.{true, false, not}
 use mathlib.Core.List.{List, [], _∷_, _++_}
 use native.Mathlib.Nat.{mod-eq-of-lt}
 use native.Mathlib.Numerals.{add-one}
@@ -21,6 +21,7 @@ use Rattle.codec_pages.specs.declared.rows.Kind.the-variants.{Sim100, Si
 use Rattle.codec_pages.specs.Frames.{asBuilt, overLimits, notExpected, bodyOf, frameWith}
 use Rattle.codec_pages.specs.Held.{HeldFrame}
 use Rattle.codec_pages.specs.Promise.{cleared}
+use Rattle.codec_pages.proofs.Limits.{limits}
 use Rattle.codec_pages.specs.Table.{part, numberAt}
 use Rattle.codec_pages.specs.Reports.{voltageOf, estimatesIn, voltagesIn, batteryIn, flagsIn}
 use Rattle.codec_pages.specs.Building.{voltageMisfit, flagsMisfit, estimatesBytes, voltagesRaw, batteryRaw}
@@ -97,9 +98,7 @@ pub passed : (identifier : ℕ) (f : Frame) → overLimits f ≡ false → notEx
 passed identifier f h l =
     let x : f .extended ≡ true = not-false (f .extended) (or-left (not (f .extended)) (not (eqb (f .identifier) identifier)) l) in
     let i : f .identifier ≡ identifier = eqb-true (f .identifier) identifier (not-false (eqb (f .identifier) identifier) (or-right (not (f .extended)) (not (eqb (f .identifier) identifier)) l)) in
-    let o = or-left (ltb 8 (f .length) || f .extended && ltb 0x1FFFFFFF (f .identifier)) (not (f .extended) && ltb 0x7FF (f .identifier)) h in
-    let p : f .extended && ltb 0x1FFFFFFF (f .identifier) ≡ false = or-right (ltb 8 (f .length)) (f .extended && ltb 0x1FFFFFFF (f .identifier)) o in
-    record { extended = x; same = i; low = rw (x, i) at p }
+    record { extended = x; same = i; low = le-ltb 0x1FFFFFFF identifier (subst (λ (n : ℕ). n ≤ 0x1FFFFFFF) i (limits f .within h .1 .0 x)) }
 
 -- the frame with the first bytes of another and zeros after them is that other, cleared
 pub joined : (identifier : ℕ) (f : Frame) (bs : List ℕ) (place : ℕ) → Passed identifier f → f .length ≡ length bs → bs ++ replicate (8 - length bs) 0 ≡ take place (f .bytes) ++ replicate (8 - place) 0 → frameWith identifier (bodyOf bs) ≡ asBuilt (cleared place f)

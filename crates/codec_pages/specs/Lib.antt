@@ -1,6 +1,7 @@
 -- What the pages speak of, from document 01's sections "Refusal numbers" and "Reports and requests". What is promised is in
 -- `Promise`, and in bytes and numbers in `Pages` and `Borders`; the table is in `Table`.
 pub mod Frames
+pub mod Alike
 pub mod Table
 pub mod Reports
 pub mod Building

@@ -1,9 +1,9 @@
 -- What the codec promises, for every frame, every kind and every identifier there is. `proofs/Promise` proves it.
-use Prim.Native.Nat.{ℕ, _-_, _≤_}
+use Prim.Native.Nat.{ℕ, _-_, _<_, _≤_}
 use mathlib.Core.Path.{_≡_}
-use mathlib.Core.Bool.{cond, _&&_}
+use mathlib.Core.Bool.{true, false, cond, _&&_}
 use mathlib.Core.List.{List, [], _∷_, _++_}
-use mathlib.Core.Logic.{_↔_}
+use mathlib.Core.Logic.{_↔_, _⊎_}
 use lib.Dec.{eqb}
 use lib.IntN.{negsuc}
 use lib.ListN.{take, replicate}
@@ -17,7 +17,7 @@ use Rattle.codec_pages.specs.declared.report.ReportReading.the-variants.
 use Rattle.codec_pages.specs.declared.request.Request.{Request}
 use Rattle.codec_pages.specs.declared.request.RequestReading.the-variants.{Read as Asked}
 use Rattle.words.specs.Signed.{signedOf}
-use Rattle.codec_pages.specs.Frames.{muxOf, bodyOf, frameOf, asBuilt, blank}
+use Rattle.codec_pages.specs.Frames.{overLimits, muxOf, bodyOf, frameOf, asBuilt, blank}
 use Rattle.codec_pages.specs.Table.{numberAt}
 use Rattle.codec_pages.specs.Told.{reportMux, requestMux, toldReport, toldRequest, toldBuilt}
 use Rattle.codec_pages.specs.Conditions.{reportConditions, requestConditions, tableReport, tableRequest, reportBuildConditions, requestBuildConditions}
@@ -27,6 +27,13 @@ use Rattle.codec_pages.specs.Held.{HeldFrame, HeldReport, HeldRequest}
 use Rattle.codec_pages.specs.Reports.{readReport}
 use Rattle.codec_pages.specs.Building.{isSim100, reportBytes, buildReport}
 use Rattle.codec_pages.specs.Requests.{readRequest, requestBytes, buildRequest}
+
+-- ---- the limits of a frame
+
+-- 1: "a frame's length is over 8, or its identifier over 0x1FFFFFFF (extended) or 0x7FF (standard)", exactly then; and what is so where it is not due
+pub record Limits (f : Frame) : Type 0 where
+  pub over : overLimits f ≡ true ↔ ((8 < f .length) ⊎ ((f .extended ≡ true) × (0x1FFFFFFF < f .identifier))) ⊎ ((f .extended ≡ false) × (0x7FF < f .identifier))
+  pub within : overLimits f ≡ false → (f .length ≤ 8) × ((f .extended ≡ true → f .identifier ≤ 0x1FFFFFFF) × (f .extended ≡ false → f .identifier ≤ 0x7FF))
 
 -- ---- answered or refused
 
@@ -74,6 +81,7 @@ pub record Promise : Type 0 where
   -- the pages in bytes, and the refusals at their borders
   pub pages : Pages
   pub borders : Borders
+  pub limits : (f : Frame) → Limits f
   -- "Byte 0 is the multiplexer, repeated in the report."
   pub reports-first : (k : Kind) (identifier : ℕ) (r : Report) → muxOf (frameOf identifier (bodyOf (reportBytes k r))) ≡ reportMux r
   pub requests-first : (k : Kind) (identifier : ℕ) (r : Request) → muxOf (frameOf identifier (bodyOf (requestBytes k r))) ≡ requestMux r

@@ -1,5 +1,2 @@
--- The laws of settings and messages, and the proofs of their promise.
-pub mod Messages
-pub mod Settings
-pub mod SerialWords
-pub mod Promise
+-- The laws of choosing by the place of a setting.
+pub mod Chosen

@@ -1,6 +1,6 @@
-// The words of maintenance mode, as document 002 has them and document 01 completes them.
+// The words of maintenance mode at work, by the definitions of `maintenance_pages`.
 //
-//     setting  the six settings, their codes, which values are legal, and those that power-on accepts
+//     setting  which values are legal and which settings power-on accepts; one setting of the six
 //     message  what a frame says to the monitor, the challenge and its answer, and what the monitor says back
 pub mod message;
 pub mod setting;

@@ -1,18 +1,20 @@
 // What a frame says to the monitor, and what the monitor says back.
 ghost use mathlib.Core.Path.{_≡_};
 ghost use Rattle.codec_pages.specs.Frames.{frameOf};
-ghost use Rattle.maintenance.specs.Messages.{
+ghost use Rattle.maintenance_pages.specs.Messages.{
   isUnlock,
   isCommit,
   isAnswer,
   asksSerial,
+  wordAsked,
   asRead,
   asWrite,
   message,
   challengeOf,
   answerTo,
   isRight,
-  serialWord,
+  serialMux,
+  serialValue,
   quiet,
   sends,
   ack,
@@ -21,8 +23,6 @@ ghost use Rattle.maintenance.specs.Messages.{
   shown,
   serialReport,
 };
-use crate::setting::Named;
-use crate::setting::Setting;
 use crate::setting::code_of;
 use crate::setting::setting_of;
 use codec_build::report::build_report;
@@ -30,28 +30,17 @@ use codec_pages::frame::Body;
 use codec_pages::frame::Frame;
 use codec_pages::report::Report;
 use codec_pages::rows::Kind;
+use maintenance_pages::message::Message;
+use maintenance_pages::message::Reply;
+use maintenance_pages::message::SerialWord;
+use maintenance_pages::setting::Named;
+use maintenance_pages::setting::Setting;
 use words::Order;
 use words::word::bytes32;
 use words::word::word32;
 
 // "the seven constants 53 4E 44 53 49 4D 42"
 const CONSTANTS: [u8; 7] = [0x53, 0x4E, 0x44, 0x53, 0x49, 0x4D, 0x42];
-
-pub enum Message {
-    Other,
-    Unlock,
-    Commit,
-    Answer,
-    SerialRequest(u8),
-    Read(Setting),
-    Write(Setting, u32),
-}
-
-// A frame that the monitor sends. Where it sends none, the frame is blank.
-pub struct Reply {
-    pub sent: bool,
-    pub frame: Frame,
-}
 
 // ---- what a frame says
 
@@ -77,6 +66,18 @@ fn asks_serial(f: Frame) -> bool
     ensures { λ r. ⌜ r ≡ asksSerial f ⌝ }
 {
     ((f.length == 1) | (f.length == 3)) & (f.bytes[0] >= 0x08) & (f.bytes[0] <= 0x0B)
+}
+
+// Of a multiplexer 08 to 0B.
+fn word_asked(mux: u8) -> SerialWord
+    ensures { λ r. ⌜ r ≡ wordAsked mux ⌝ }
+{
+    match mux {
+        0x08 => SerialWord::Last,
+        0x09 => SerialWord::Third,
+        0x0A => SerialWord::Second,
+        _ => SerialWord::First,
+    }
 }
 
 fn as_read(named: Named) -> Message
@@ -110,7 +111,7 @@ pub fn message_of(f: Frame) -> Message
     }
     let serial = asks_serial(f);
     if serial {
-        return Message::SerialRequest(f.bytes[0]);
+        return Message::SerialRequest(word_asked(f.bytes[0]));
     }
     let one = f.length == 1;
     if one {
@@ -258,26 +259,36 @@ pub fn value_reply(transmit: u32, setting: Setting, value: u32) -> Reply
     )
 }
 
-// The word of a serial request: 08 asks for the last four serial bytes, 0B for the first four.
-fn serial_word(serial: [u8; 16], mux: u8) -> u32
-    ensures { λ r. ⌜ r ≡ serialWord serial mux ⌝ }
+fn serial_mux(word: SerialWord) -> u8
+    ensures { λ r. ⌜ r ≡ serialMux word ⌝ }
 {
-    match mux {
-        0x08 => word32(Order::Big, serial[12], serial[13], serial[14], serial[15]),
-        0x09 => word32(Order::Big, serial[8], serial[9], serial[10], serial[11]),
-        0x0A => word32(Order::Big, serial[4], serial[5], serial[6], serial[7]),
-        _ => word32(Order::Big, serial[0], serial[1], serial[2], serial[3]),
+    match word {
+        SerialWord::First => 0x0B,
+        SerialWord::Second => 0x0A,
+        SerialWord::Third => 0x09,
+        SerialWord::Last => 0x08,
+    }
+}
+
+fn serial_value(serial: [u8; 16], word: SerialWord) -> u32
+    ensures { λ r. ⌜ r ≡ serialValue serial word ⌝ }
+{
+    match word {
+        SerialWord::First => word32(Order::Big, serial[0], serial[1], serial[2], serial[3]),
+        SerialWord::Second => word32(Order::Big, serial[4], serial[5], serial[6], serial[7]),
+        SerialWord::Third => word32(Order::Big, serial[8], serial[9], serial[10], serial[11]),
+        SerialWord::Last => word32(Order::Big, serial[12], serial[13], serial[14], serial[15]),
     }
 }
 
 // The serial words are reports, and built as such.
-pub fn serial_reply(transmit: u32, serial: [u8; 16], mux: u8) -> Reply
-    ensures { λ r. ⌜ r ≡ serialReport transmit serial mux ⌝ }
+pub fn serial_reply(transmit: u32, serial: [u8; 16], word: SerialWord) -> Reply
+    ensures { λ r. ⌜ r ≡ serialReport transmit serial word ⌝ }
 {
     let built = build_report(
         Kind::Sim101,
         transmit,
-        Report::Word(mux, serial_word(serial, mux)),
+        Report::Word(serial_mux(word), serial_value(serial, word)),
     );
     let f = built.frame;
     Reply {

@@ -1,32 +1,11 @@
-// The six settings of document 002's table 4.
+// The six settings: their codes, which values are legal, and those that power-on accepts.
 ghost use mathlib.Core.Path.{_≡_};
 ghost use mathlib.Core.Bool.{cond};
-ghost use Rattle.maintenance.specs.Settings.{code, settingOf, orderOf, legal, accepted, valueOf, withValue, speedNumber};
-
-pub enum Setting {
-    ReceiveId,
-    TransmitId,
-    Speed,
-    Voltage,
-    WarningLevel,
-    FaultLevel,
-}
-
-// The setting that a code names, if it names one.
-pub enum Named {
-    Unknown,
-    Known(Setting),
-}
-
-// A value for each setting, in the order of their codes.
-pub struct Settings {
-    pub receive: u32,
-    pub transmit: u32,
-    pub speed: u32,
-    pub voltage: u32,
-    pub warning: u32,
-    pub fault: u32,
-}
+ghost use Rattle.maintenance_pages.specs.Settings.{code, settingOf, legal, accepted, valueOf, withValue, speedNumber};
+ghost use Rattle.maintenance.specs.Places.{orderOf};
+use maintenance_pages::setting::Named;
+use maintenance_pages::setting::Setting;
+use maintenance_pages::setting::Settings;
 
 pub(crate) fn code_of(setting: Setting) -> u8
     ensures { λ r. ⌜ r ≡ code setting ⌝ }

@@ -3,7 +3,7 @@ use mathlib.Core.Path.{refl}
 use Rattle.codec_pages.specs.Table.{entryOf}
 use Rattle.codec_pages.specs.Reports.{readReport}
 use Rattle.codec_pages.specs.Requests.{readRequest}
-use Rattle.maintenance.specs.Messages.{message}
+use Rattle.maintenance_pages.specs.Messages.{message}
 use Rattle.rules.specs.History.{storedAfter}
 use Rattle.text.specs.Figures.{hexadecimal, decimalUpTo}
 use Rattle.log.specs.Layout.{isLaidOut}

@@ -8,8 +8,8 @@ use Rattle.codec_pages.specs.declared.frame.Frame.{Frame}
 use Rattle.codec_pages.specs.Told.{Values, toldReport, toldRequest}
 use Rattle.codec_pages.specs.Reports.{readReport}
 use Rattle.codec_pages.specs.Requests.{readRequest}
-use Rattle.maintenance.specs.declared.setting.Settings.{Settings}
-use Rattle.maintenance.specs.Messages.{answerTo}
+use Rattle.maintenance_pages.specs.declared.setting.Settings.{Settings}
+use Rattle.maintenance_pages.specs.Messages.{answerTo}
 use Rattle.rules.specs.Events.{Event, PowerOn}
 use Rattle.rules.specs.History.{storedAfter, replyTo}
 use Rattle.rules.specs.Given.{Given, givenReply}

@@ -8,7 +8,7 @@ use mathlib.Core.List.{List, [], _∷_, _++_}
 use lib.IntN.{pos}
 use Rattle.codec_pages.specs.declared.rows.Kind.the-variants.{Sim100, Sim101}
 use Rattle.codec_pages.specs.declared.frame.Frame.{Frame}
-use Rattle.maintenance.specs.declared.setting.Settings.{Settings}
+use Rattle.maintenance_pages.specs.declared.setting.Settings.{Settings}
 use Rattle.rules.specs.Events.{Event, frameEvent, PowerOn}
 use Rattle.rules.specs.Given.{Given, reply}
 use Rattle.text.specs.Letters.{letters}

@@ -1,4 +1,4 @@
--- Histories reach benches: power-on and an accepted event add to them, a refused one does not. Assumes nothing.
+-- What stands on the bench after a run, and that power-on and an accepted event go on with it; a refused one does not. Assumes nothing.
 use Prim.Native.Nat.{_≤_}
 use mathlib.Core.Path.{_≡_, refl, sym, ap, subst, _∙_}
 use mathlib.Core.Bool.{Bool, true, false}
@@ -9,16 +9,13 @@ use Rattle.refusal.specs.declared.Refusal.{Refusal}
 use Rattle.refusal.specs.declared.Refusal.the-variants.{OverLimits, EarlyStamp, NotLegal}
 use Rattle.refusal.specs.declared.Acceptance.{Acceptance}
 use Rattle.refusal.specs.declared.Acceptance.the-variants.{Accepted, Refused}
-use Rattle.maintenance.specs.Settings.{accepted}
-use Rattle.maintenance.specs.Messages.{quiet}
+use Rattle.maintenance_pages.specs.Settings.{accepted}
+use Rattle.maintenance_pages.specs.Messages.{quiet}
 use Rattle.monitor.specs.declared.bench.Bench.{Bench}
-use Rattle.monitor.specs.declared.bench.PoweredOn.{PoweredOn}
 use Rattle.monitor.specs.declared.bench.Outcome.{Outcome}
 use Rattle.rules.specs.Events.{Event, PowerOn, stampOf, beyond, lastStamp, Run}
 use Rattle.monitor.specs.Bench.{early, outcomeOf, acceptedAt, poweredOn, benchAt, after}
 use Rattle.rules.specs.Rules.{step, unitAfter}
-use Rattle.monitor.specs.Reached.{Reached, Added, EventAnswered, PowerOnAnswered}
-use Rattle.rules.proofs.History.{unit-stored, unit-reply}
 
 abbrev isAccepted : Acceptance → Bool
 isAccepted Accepted = true
@@ -43,29 +40,19 @@ accepted-next p e h r = ap (outcomeOf e) (bench-after p h (r .1 .1)) ∙ in-orde
 
 -- ---- an event
 
--- an event that is accepted goes on with every run that reaches the bench
-pub run-further : (e : Event) (b : Bench) → outcomeOf e b .acceptance ≡ Accepted → (p : PowerOn) (h : List Event) → Reached p h b → Run p (e ∷ h)
-run-further e b a p h r =
+-- an event that is accepted goes on with the run
+pub run-further : (p : PowerOn) (e : Event) (h : List Event) → Run p h → outcomeOf e (after p h) .acceptance ≡ Accepted → Run p (e ∷ h)
+run-further p e h r a =
     decided (beyond e)
     (λ x. not-both OverLimits (rw x at a))
-    (λ x. decided (early e b)
+    (λ x. decided (early e (after p h))
     (λ y. not-both EarlyStamp (rw (x, y) at a))
     (λ y. (
       x,
-      (subst (λ (c : Bench). c .last .0 ≤ stampOf e .0) (r .bench ∙ bench-after p h (r .run)) (ltb-false (stampOf e .0) (b .last .0) y), r .run),
+      (subst (λ (c : Bench). c .last .0 ≤ stampOf e .0) (bench-after p h r) (ltb-false (stampOf e .0) (after p h .last .0) y), r),
     )))
 
-added : (e : Event) (b : Bench) → outcomeOf e b .acceptance ≡ Accepted → (p : PowerOn) (h : List Event) → Reached p h b → Added p h e (outcomeOf e b)
-added e b a p h r =
-    let run : Run p (e ∷ h) = run-further e b a p h r in
-    let now : outcomeOf e b ≡ acceptedAt (stampOf e) (step e (unitAfter p h)) = ap (outcomeOf e) (r .bench) ∙ accepted-next p e h run in
-    record {
-      reached = record { run = run; bench = ap (λ (c : Bench). outcomeOf e c .bench) (r .bench) };
-      stored = ap (λ (o : Outcome). o .bench .monitor .stored) now ∙ unit-stored p (e ∷ h) run;
-      reply = ap (λ (o : Outcome). o .reply) now ∙ unit-reply p h e run;
-    }
-
-same : (e : Event) (b : Bench) (why : Refusal) → outcomeOf e b .acceptance ≡ Refused why → (outcomeOf e b .bench ≡ b) × (outcomeOf e b .reply ≡ quiet)
+pub same : (e : Event) (b : Bench) (why : Refusal) → outcomeOf e b .acceptance ≡ Refused why → (outcomeOf e b .bench ≡ b) × (outcomeOf e b .reply ≡ quiet)
 same e b why a =
     decided (beyond e)
     (λ x. rw x (refl, refl))
@@ -73,22 +60,8 @@ same e b why a =
     (λ y. rw (x, y) (refl, refl))
     (λ y. not-both why (sym (rw (x, y) at a))))
 
--- what meets the rules' outcome meets the rest
-pub event-answered : (e : Event) (b : Bench) (o : Outcome) → o ≡ outcomeOf e b → EventAnswered e b o
-event-answered e b o q =
-    subst (EventAnswered e b) (sym q) (record { outcome = refl; accepted = added e b; refused = same e b })
-
 -- ---- power-on
 
 pub run-on : (p : PowerOn) (test : Bool) → accepted (p .rating) (p .settings) ≡ test → poweredOn (p .at) (p .serial) (p .rating) (p .settings) .acceptance ≡ Accepted → Run p []
 run-on p true t a = t
 run-on p false t a = not-both NotLegal (rw t at a)
-
-pub power-on-answered : (p : PowerOn) (r : PoweredOn) → r ≡ poweredOn (p .at) (p .serial) (p .rating) (p .settings) → PowerOnAnswered p r
-power-on-answered p r q =
-    subst (PowerOnAnswered p) (sym q)
-    (record {
-      answered = refl;
-      reached = λ a. record { run = run-on p (accepted (p .rating) (p .settings)) refl a; bench = refl };
-      stored = λ a. ap (λ (b : Bench). b .monitor .stored) (bench-after p [] (run-on p (accepted (p .rating) (p .settings)) refl a)) ∙ unit-stored p [] (run-on p (accepted (p .rating) (p .settings)) refl a);
-    })

@@ -2,13 +2,13 @@
 use mathlib.Core.Path.{_≡_, refl, sym, ap, _∙_}
 use mathlib.Core.List.{List}
 use borrow.Author.Tests.{le-ltb}
-use Rattle.maintenance.specs.Settings.{accepted}
+use Rattle.maintenance_pages.specs.Settings.{accepted}
 use Rattle.rules.specs.declared.unit.Monitor.{Monitor}
 use Rattle.rules.specs.Rules.{woken, unitAfter}
 use Rattle.rules.specs.Events.{Event, PowerOn, lastStamp, Run}
-use Rattle.rules.specs.Demand.{Demand}
+use Rattle.rules.specs.Demand.{Demand, Same}
 use Rattle.rules.specs.Promise.{isOpen, stateOf}
-use Rattle.rules.proofs.OneReading.{Same, meets-too}
+use Rattle.rules.proofs.OneReading.{meets-too}
 use Rattle.rules.proofs.Promise.{promise as rules}
 use Rattle.monitor.specs.declared.bench.Bench.{Bench}
 use Rattle.monitor.specs.declared.bench.Outcome.{Outcome}
@@ -23,7 +23,7 @@ runs-accepted p =
       power-on = (λ a. rw a refl, run-on p (accepted (p .rating) (p .settings)) refl);
       event = λ e h r. (
         λ run. ap (λ (o : Outcome). o .acceptance) (accepted-next p e h run),
-        λ a. run-further e (after p h) a p h (record { run = r; bench = refl }),
+        run-further p e h r,
       );
     }
 

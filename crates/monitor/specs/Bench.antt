@@ -7,7 +7,7 @@ use Rattle.refusal.specs.declared.Refusal.{Refusal}
 use Rattle.refusal.specs.declared.Refusal.the-variants.{OverLimits, EarlyStamp, NotLegal}
 use Rattle.refusal.specs.declared.Acceptance.the-variants.{Accepted, Refused}
 use Rattle.time.specs.declared.Stamp.{Stamp}
-use Rattle.maintenance.specs.declared.setting.Settings.{Settings}
+use Rattle.maintenance_pages.specs.declared.setting.Settings.{Settings}
 use Rattle.rules.specs.declared.unit.Monitor.{Monitor}
 use Rattle.rules.specs.declared.unit.Turn.{Turn}
 use Rattle.monitor.specs.declared.bench.Bench.{Bench}
@@ -16,8 +16,8 @@ use Rattle.monitor.specs.declared.bench.Outcome.{Outcome}
 use Rattle.monitor.specs.declared.bench.UptimeReading.{UptimeReading}
 use Rattle.monitor.specs.declared.bench.UptimeReading.the-variants.{Read as Ticked, Refused as NotTicked}
 use Rattle.time.specs.Times.{earlier}
-use Rattle.maintenance.specs.Settings.{accepted}
-use Rattle.maintenance.specs.Messages.{quiet}
+use Rattle.maintenance_pages.specs.Settings.{accepted}
+use Rattle.maintenance_pages.specs.Messages.{quiet}
 use Rattle.rules.specs.Rules.{startedWith, uptimeOf, step}
 use Rattle.rules.specs.Events.{Event, PowerOn, stampOf, beyond}
 

@@ -1,5 +1,4 @@
 -- The monitor on the bench: refusals, and what its functions tell of histories. What it promises is in `Promise`.
 pub mod Bench
-pub mod Reached
 pub mod Told
 pub mod Promise

@@ -1,27 +1,24 @@
 -- What the monitor promises, for every monitor, every event and every history there is. `proofs/Promise` proves it.
-use Prim.Native.Nat.{ℕ, _-_, _/_, _<_, _≤_}
+use Prim.Native.Nat.{ℕ, _-_, _/_, _≤_}
 use mathlib.Core.Path.{_≡_}
-use mathlib.Core.Bool.{true}
 use mathlib.Core.List.{List, [], _∷_}
 use mathlib.Core.Logic.{_↔_}
 use Rattle.refusal.specs.Conditions.{First, None, GivenExactly}
 use Rattle.refusal.specs.declared.Acceptance.the-variants.{Accepted}
-use Rattle.maintenance.specs.Settings.{accepted}
-use Rattle.maintenance.specs.Messages.{quiet as noReply}
+use Rattle.maintenance_pages.specs.Means.{Acceptable}
+use Rattle.maintenance_pages.specs.Messages.{quiet as noReply}
 use Rattle.time.specs.declared.Stamp.{Stamp}
 use Rattle.time.specs.Times.{ticksBetween}
 use Rattle.rules.specs.Events.{Event, PowerOn, IsAccepted, stampOf, lastStamp, Run, acceptedOf}
 use Rattle.rules.specs.Rules.{woken, step}
 use Rattle.rules.specs.History.{storedAfter, lastStart, replyTo}
+use Rattle.rules.specs.Past.{AlikeEvents, AlikeHistories}
 use Rattle.rules.specs.Demand.{Demand}
 use Rattle.rules.specs.Given.{on, ticks, givenReply}
 use Rattle.rules.specs.Promise.{Fresh, OnIdentifier, stateOf}
 use Rattle.monitor.specs.declared.bench.Bench.{Bench}
-use Rattle.monitor.specs.declared.bench.Outcome.{Outcome}
-use Rattle.monitor.specs.declared.bench.PoweredOn.{PoweredOn}
 use Rattle.monitor.specs.declared.bench.UptimeReading.the-variants.{Read as Ticked}
 use Rattle.monitor.specs.Bench.{outcomeOf, poweredOn, uptimeAsked, benchAt, after}
-use Rattle.monitor.specs.Reached.{EventAnswered, PowerOnAnswered}
 use Rattle.monitor.specs.Told.{toldOutcome, toldPowerOn, toldUptime, eventConditions, powerOnConditions, uptimeConditions}
 
 -- ---- answered or refused
@@ -51,14 +48,18 @@ pub record Holds (p : PowerOn) (h : List Event) : Type 0 where
   pub serial : after p h .monitor .serial ≡ p .serial
   pub rating : after p h .monitor .rating ≡ p .rating
   -- the stored six are legal: a level is never 0, and a voltage never reaches the rating
-  pub legal : accepted (p .rating) (after p h .monitor .stored) ≡ true
-  pub warning : 1 ≤ after p h .monitor .stored .warning
-  pub fault : 1 ≤ after p h .monitor .stored .fault
-  pub voltage : after p h .monitor .stored .voltage < p .rating
+  pub legal : Acceptable (p .rating) (after p h .monitor .stored)
   -- "Every reply is on the transmit identifier stored before the event."
   pub identifier : (e : Event) → OnIdentifier (after p h .monitor .stored .transmit) (outcomeOf e (after p h) .reply)
   -- the last start, silence counted, is not after the question, so that the uptime is a true difference
   pub start : (at : Stamp) → after p h .last .0 ≤ at .0 → woken at (after p h .monitor) .start .0 ≤ at .0
+
+-- ---- bytes past the length
+
+-- histories that differ only there leave the same bench, and what comes next, such events too, is answered alike: refusal, reply and all
+pub record PastLength (p : PowerOn) (h h′ : List Event) : Type 0 where
+  pub bench : after p h ≡ after p h′
+  pub outcome : (e e′ : Event) → AlikeEvents e e′ → outcomeOf e (after p h) ≡ outcomeOf e′ (after p h′)
 
 -- ---- demand 3
 
@@ -74,21 +75,14 @@ pub record WorkedOut (p : PowerOn) (h : List Event) : Type 0 where
   pub start : (t : Stamp) → lastStamp p h .0 ≤ t .0 → woken t (after p h .monitor) .start ≡ lastStart p h t
   pub uptime : (t : Stamp) → lastStamp p h .0 ≤ t .0 → uptimeAsked t (after p h) ≡ Ticked (ticksBetween (lastStart p h t) t)
 
--- ---- one outcome only
-
--- any two outcomes that a contract allows are equal. (The other functions of the bench answer by an equation.)
-pub record OneOutcome : Type 0 where
-  pub event : (e : Event) (b : Bench) (o o′ : Outcome) → EventAnswered e b o → EventAnswered e b o′ → o ≡ o′
-  pub power-on : (p : PowerOn) (r r′ : PoweredOn) → PowerOnAnswered p r → PowerOnAnswered p r′ → r ≡ r′
-
 -- ---- the promise
 
 pub record Promise : Type 0 where
   pub events : (e : Event) (b : Bench) → Handles e b
   pub power-on : (p : PowerOn) → PowersOn p
-  pub one : OneOutcome
   pub uptime : (at : Stamp) (b : Bench) → GivenExactly (toldUptime (uptimeAsked at b)) (uptimeConditions at b) (ticks ((at .0 - woken at (b .monitor) .start .0) / 10))
   pub history : (p : PowerOn) → IsAccepted p → (h : List Event) → Holds p h
+  pub past-length : (p : PowerOn) (h h′ : List Event) → AlikeHistories h h′ → PastLength p h h′
   pub runs : (p : PowerOn) → RunsAreAccepted p
   pub worked-out : (p : PowerOn) (h : List Event) → Run p h → WorkedOut p h
   -- in the demand's own words, of the monitor on the bench

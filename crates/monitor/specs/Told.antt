@@ -12,7 +12,7 @@ use Rattle.monitor.specs.declared.bench.Outcome.{Outcome}
 use Rattle.monitor.specs.declared.bench.UptimeReading.{UptimeReading}
 use Rattle.monitor.specs.declared.bench.UptimeReading.the-variants.{Read as Ticked, Refused as NotTicked}
 use Rattle.time.specs.Times.{earlier}
-use Rattle.maintenance.specs.Settings.{accepted}
+use Rattle.maintenance_pages.specs.Settings.{accepted}
 use Rattle.rules.specs.Events.{Event, PowerOn, beyond}
 use Rattle.rules.specs.Given.{Given, on, ticks, givenReply}
 use Rattle.monitor.specs.Bench.{early}

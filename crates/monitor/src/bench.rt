@@ -2,16 +2,15 @@
 // and an uptime question returns a number alone.
 ghost use mathlib.Core.Path.{_≡_};
 ghost use Rattle.rules.specs.Events.{frameEvent, resetEvent};
-ghost use Rattle.monitor.specs.Bench.{noBench, refusedBy, acceptedAt, uptimeAsked};
-ghost use Rattle.monitor.specs.Reached.{EventAnswered, PowerOnAnswered, powerOnWith};
+ghost use Rattle.monitor.specs.Bench.{noBench, poweredOn, refusedBy, acceptedAt, outcomeOf, uptimeAsked};
 use crate::turn::start_with;
 use crate::unit;
 use codec_pages::frame::Frame;
 use codec_rows::limits::over_limits;
-use maintenance::message::Reply;
 use maintenance::message::no_reply;
-use maintenance::setting::Settings;
 use maintenance::setting::is_accepted;
+use maintenance_pages::message::Reply;
+use maintenance_pages::setting::Settings;
 use refusal::Acceptance;
 use refusal::Refusal;
 use rules::unit::Monitor;
@@ -43,18 +42,11 @@ pub enum UptimeReading {
     Refused(Refusal),
 }
 
-// ---- what a screen or a log shows
-
-pub fn monitor(b: Bench) -> Monitor
-    ensures { λ r. ⌜ r ≡ b .monitor ⌝ }
+// The six settings that are stored.
+pub fn stored(b: Bench) -> Settings
+    ensures { λ r. ⌜ r ≡ b .monitor .stored ⌝ }
 {
-    b.monitor
-}
-
-pub fn last_stamp(b: Bench) -> Stamp
-    ensures { λ r. ⌜ r ≡ b .last ⌝ }
-{
-    b.last
+    b.monitor.stored
 }
 
 // ---- power-on
@@ -78,7 +70,7 @@ pub fn no_bench() -> Bench
 }
 
 pub fn power_on(at: Stamp, serial: [u8; 16], rating: u16, settings: Settings) -> PoweredOn
-    ensures { λ r. ⌜ PowerOnAnswered (powerOnWith at serial rating settings) r ⌝ }
+    ensures { λ r. ⌜ r ≡ poweredOn at serial rating settings ⌝ }
 {
     let good = is_accepted(rating, settings);
     if good {
@@ -121,7 +113,7 @@ fn accepted_at(turn: Turn, at: Stamp) -> Outcome
 }
 
 pub fn frame_event(b: Bench, at: Stamp, storing: bool, f: Frame) -> Outcome
-    ensures { λ r. ⌜ EventAnswered (frameEvent at storing f) b r ⌝ }
+    ensures { λ r. ⌜ r ≡ outcomeOf (frameEvent at storing f) b ⌝ }
 {
     let over = over_limits(f);
     if over {
@@ -135,7 +127,7 @@ pub fn frame_event(b: Bench, at: Stamp, storing: bool, f: Frame) -> Outcome
 }
 
 pub fn reset_event(b: Bench, at: Stamp) -> Outcome
-    ensures { λ r. ⌜ EventAnswered (resetEvent at) b r ⌝ }
+    ensures { λ r. ⌜ r ≡ outcomeOf (resetEvent at) b ⌝ }
 {
     let early = is_earlier(at, b.last);
     if early {

@@ -6,11 +6,12 @@ use crate::turn::go_on;
 use crate::turn::ignore;
 use crate::turn::move_to;
 use codec_pages::frame::Frame;
-use maintenance::message::Message;
 use maintenance::message::ack_reply;
 use maintenance::message::challenge_reply;
 use maintenance::message::is_right;
 use maintenance::message::serial_reply;
+use maintenance_pages::message::Message;
+use maintenance_pages::message::SerialWord;
 use rules::unit::Monitor;
 use rules::unit::Pending;
 use rules::unit::Phase;
@@ -49,13 +50,13 @@ fn answer(m: Monitor, pending: Pending, at: Stamp, f: Frame) -> Turn
     }
 }
 
-fn serial_request(m: Monitor, mux: u8) -> Turn
-    ensures { λ r. ⌜ r ≡ serialAsked mux m ⌝ }
+fn serial_request(m: Monitor, word: SerialWord) -> Turn
+    ensures { λ r. ⌜ r ≡ serialAsked word m ⌝ }
 {
     let serial = m.serial;
     Turn {
         monitor: m,
-        reply: serial_reply(m.stored.transmit, serial, mux),
+        reply: serial_reply(m.stored.transmit, serial, word),
     }
 }
 
@@ -71,7 +72,7 @@ pub(crate) fn meet_outside(
     match message {
         Message::Unlock => unlock(m, at),
         Message::Answer => answer(m, pending, at, f),
-        Message::SerialRequest(mux) => serial_request(m, mux),
+        Message::SerialRequest(word) => serial_request(m, word),
         Message::Read(_) => ignore(m),
         Message::Write(_, _) => ignore(m),
         Message::Commit => ignore(m),

@@ -1,10 +1,10 @@
 // What an event may leave: the monitor started, or as it goes on, and the reply.
 ghost use mathlib.Core.Path.{_≡_};
 ghost use Rattle.rules.specs.Rules.{turn, inPhase, startedWith, started, ignored, givenUp, goesOn, heard};
-use maintenance::message::Reply;
 use maintenance::message::nak_reply;
 use maintenance::message::no_reply;
-use maintenance::setting::Settings;
+use maintenance_pages::message::Reply;
+use maintenance_pages::setting::Settings;
 use rules::unit::Monitor;
 use rules::unit::Pending;
 use rules::unit::Phase;

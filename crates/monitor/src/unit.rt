@@ -7,7 +7,6 @@ use crate::turn::ignore;
 use crate::turn::start_again;
 use codec_pages::frame::Frame;
 use maintenance::message::message_of;
-use maintenance::setting::Settings;
 use rules::unit::Monitor;
 use rules::unit::Phase;
 use rules::unit::Turn;
@@ -15,24 +14,6 @@ use time::Stamp;
 use time::Ticks;
 use time::past_limit;
 use time::ticks_between;
-
-pub fn stored(m: Monitor) -> Settings
-    ensures { λ r. ⌜ r ≡ m .stored ⌝ }
-{
-    m.stored
-}
-
-pub fn serial(m: Monitor) -> [u8; 16]
-    ensures { λ r. ⌜ r ≡ m .serial ⌝ }
-{
-    m.serial
-}
-
-pub fn rating(m: Monitor) -> u16
-    ensures { λ r. ⌜ r ≡ m .rating ⌝ }
-{
-    m.rating
-}
 
 // The monitor as an event at this stamp finds it: in a session, more than 2,000 ms without a heard message have started it again.
 fn wake(m: Monitor, at: Stamp) -> Monitor
@@ -69,7 +50,7 @@ fn meet(m: Monitor, at: Stamp, storing: bool, f: Frame) -> Turn
     }
 }
 
-pub fn frame(m: Monitor, at: Stamp, storing: bool, f: Frame) -> Turn
+pub(crate) fn frame(m: Monitor, at: Stamp, storing: bool, f: Frame) -> Turn
     ensures { λ r. ⌜ r ≡ framed at storing f m ⌝ }
 {
     let w = wake(m, at);
@@ -80,14 +61,14 @@ pub fn frame(m: Monitor, at: Stamp, storing: bool, f: Frame) -> Turn
     ignore(w)
 }
 
-pub fn reset(m: Monitor, at: Stamp) -> Turn
+pub(crate) fn reset(m: Monitor, at: Stamp) -> Turn
     ensures { λ r. ⌜ r ≡ wasReset at m ⌝ }
 {
     ignore(start_again(m, m.stored, at))
 }
 
 // The uptime at a stamp: the ticks since the last start, silence counted.
-pub fn uptime(m: Monitor, at: Stamp) -> Ticks
+pub(crate) fn uptime(m: Monitor, at: Stamp) -> Ticks
     ensures { λ r. ⌜ r ≡ uptimeOf at m ⌝ }
 {
     let w = wake(m, at);

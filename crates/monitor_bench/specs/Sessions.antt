@@ -6,7 +6,7 @@ use lib.ListN.{getD}
 use Rattle.words.specs.declared.Order.the-variants.{Big}
 use Rattle.words.specs.Words.{wordOf}
 use Rattle.codec_pages.specs.declared.frame.Frame.{Frame}
-use Rattle.maintenance.specs.declared.setting.Settings.{Settings}
+use Rattle.maintenance_pages.specs.declared.setting.Settings.{Settings}
 use Rattle.time.specs.declared.Stamp.{Stamp}
 use Rattle.monitor.specs.declared.bench.Bench.{Bench}
 use Rattle.monitor.specs.declared.bench.Outcome.{Outcome}

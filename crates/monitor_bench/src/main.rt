@@ -5,7 +5,7 @@ ghost use Prim.Native.Nat.{_%_, _*_};
 ghost use Rattle.monitor_bench.specs.Sessions.{frameOn, hostFrame, counts, plays, sessionFrom, unitOnBench};
 use codec_pages::frame::Frame;
 use door::LastWord;
-use maintenance::setting::Settings;
+use maintenance_pages::setting::Settings;
 use monitor::bench::Bench;
 use monitor::bench::Outcome;
 use monitor::bench::frame_event;

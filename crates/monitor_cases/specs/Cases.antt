@@ -7,7 +7,7 @@ use lib.ListN.{getD}
 use Rattle.codec_pages.specs.declared.frame.Frame.{Frame}
 use Rattle.codec_pages.specs.Table.{part, numberAt}
 use Rattle.time.specs.declared.Stamp.{Stamp}
-use Rattle.maintenance.specs.declared.setting.Settings.{Settings}
+use Rattle.maintenance_pages.specs.declared.setting.Settings.{Settings}
 use Rattle.rules.specs.Events.{Event, frameEvent, resetEvent}
 
 -- byte 4: the kind, 0 to 5; byte 5 of a frame: 0 standard, 1 extended

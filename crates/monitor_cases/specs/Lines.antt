@@ -7,9 +7,9 @@ use Rattle.text.specs.Letters.{letters}
 use Rattle.codec_pages.specs.declared.frame.Frame.{Frame}
 use Rattle.refusal.specs.declared.Acceptance.{Acceptance}
 use Rattle.refusal.specs.declared.Acceptance.the-variants.{Accepted, Refused}
-use Rattle.maintenance.specs.declared.message.Reply.{Reply}
-use Rattle.maintenance.specs.declared.setting.Settings.{Settings}
-use Rattle.maintenance.specs.Settings.{speedNumber}
+use Rattle.maintenance_pages.specs.declared.message.Reply.{Reply}
+use Rattle.maintenance_pages.specs.declared.setting.Settings.{Settings}
+use Rattle.maintenance_pages.specs.Settings.{speedNumber}
 use Rattle.monitor.specs.declared.bench.Bench.{Bench}
 use Rattle.monitor.specs.declared.bench.Outcome.{Outcome}
 use Rattle.monitor.specs.declared.bench.UptimeReading.{UptimeReading}

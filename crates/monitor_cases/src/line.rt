@@ -1,13 +1,12 @@
 // Answers as lines of text, each put at the end of a line.
 ghost use Rattle.show.specs.Lines.{Adds};
 ghost use Rattle.monitor_cases.specs.Lines.{storedText, noMonitorText, replyText, outcomeText, powerOnText, uptimeText, answerText};
-use maintenance::message::Reply;
 use maintenance::setting::speed_number;
+use maintenance_pages::message::Reply;
 use monitor::bench::Bench;
 use monitor::bench::Outcome;
 use monitor::bench::UptimeReading;
-use monitor::bench::monitor;
-use monitor::unit::stored;
+use monitor::bench::stored;
 use refusal::Acceptance;
 use show::Line;
 use show::byte;
@@ -23,7 +22,7 @@ use show::value;
 pub fn settings(l: Line, b: Bench) -> Line
     ensures { λ r. ⌜ Adds l (storedText b) r ⌝ }
 {
-    let k = stored(monitor(b));
+    let k = stored(b);
     let receive = hex8(text(l, b" stored "), k.receive);
     let ids = hex8(byte(receive, b' '), k.transmit);
     let rates = value(value(ids, speed_number(k.speed)), k.voltage);

@@ -4,7 +4,7 @@ ghost use Rattle.codec_pages.specs.Table.{part, numberAt};
 ghost use Rattle.monitor.specs.Bench.{outcomeOf, poweredOn};
 ghost use Rattle.monitor_cases.specs.Cases.{knownRecord, stampIn, recordFrame, recordSettings, eventIn};
 use codec_pages::frame::Frame;
-use maintenance::setting::Settings;
+use maintenance_pages::setting::Settings;
 use monitor::bench::Bench;
 use monitor::bench::Outcome;
 use monitor::bench::PoweredOn;

@@ -1,22 +1,22 @@
 -- The monitor is what the history says: whatever the run, silence counted, its parts are the answers of the reading that looks back.
 -- Assumes nothing.
-use Prim.Native.Nat.{ℕ, _+_, _≤_}
+use Prim.Native.Nat.{ℕ, _≤_}
 use mathlib.Core.Path.{_≡_, refl, sym, ap, _∙_}
 use mathlib.Core.Bool.{Bool, true, false, not, cond, _&&_}
 use mathlib.Core.List.{List, [], _∷_}
 use mathlib.Core.Option.{Option, none, some}
 use lib.Dec.{leb, ltb}
-use borrow.Author.Tests.{leb-true, leb-false, le-ltb, lt-ltb, ltb-true, ltb-false, le-leb, lt-leb}
+use borrow.Author.Tests.{leb-true, leb-false, le-ltb, lt-ltb}
 use native.Mathlib.Omega.{arith}
 use Rattle.words.proofs.Tests.{decided}
 use Rattle.codec_pages.specs.declared.frame.Frame.{Frame}
-use Rattle.maintenance.specs.declared.setting.Setting.{Setting}
-use Rattle.maintenance.specs.declared.setting.Setting.the-variants.{ReceiveId, TransmitId, Speed, Voltage, WarningLevel, FaultLevel}
-use Rattle.maintenance.specs.declared.setting.Settings.{Settings}
-use Rattle.maintenance.specs.declared.message.Message.{Message}
-use Rattle.maintenance.specs.declared.message.Message.the-variants.{Other, Unlock, Commit, Answer, SerialRequest, Read, Write}
-use Rattle.maintenance.specs.Settings.{legal, withValue}
-use Rattle.maintenance.specs.Messages.{message, heardOn, isRight, ack, shown}
+use Rattle.maintenance_pages.specs.declared.setting.Setting.{Setting}
+use Rattle.maintenance_pages.specs.declared.setting.Setting.the-variants.{ReceiveId, TransmitId, Speed, Voltage, WarningLevel, FaultLevel}
+use Rattle.maintenance_pages.specs.declared.setting.Settings.{Settings}
+use Rattle.maintenance_pages.specs.declared.message.Message.{Message}
+use Rattle.maintenance_pages.specs.declared.message.Message.the-variants.{Other, Unlock, Commit, Answer, SerialRequest, Read, Write}
+use Rattle.maintenance_pages.specs.Settings.{legal, withValue}
+use Rattle.maintenance_pages.specs.Messages.{message, heardOn, isRight, ack, shown}
 use Rattle.time.specs.declared.Stamp.{Stamp}
 use Rattle.rules.specs.declared.unit.Pending.{Pending}
 use Rattle.rules.specs.declared.unit.Pending.the-variants.{Nothing, Since}
@@ -24,27 +24,26 @@ use Rattle.rules.specs.declared.unit.Phase.{Phase}
 use Rattle.rules.specs.declared.unit.Phase.the-variants.{Outside, InSession}
 use Rattle.rules.specs.declared.unit.Monitor.{Monitor}
 use Rattle.rules.specs.declared.unit.Turn.{Turn}
-use Rattle.time.specs.Times.{later}
-use Rattle.rules.specs.Rules.{inPhase, sessionAt, goesOn, answered, refused, outside, inside, met, frameMet, woken, wasReset, step, unitAfter}
+use Rattle.rules.specs.Rules.{lateAnswer, inPhase, sessionAt, goesOn, answered, refused, outside, inside, met, frameMet, woken, wasReset, step, unitAfter}
 use Rattle.rules.specs.Events.{Event, frameEvent, resetEvent, PowerOn, lastStamp, Run}
 use Rattle.rules.specs.Promise.{isOpen}
 use Rattle.rules.proofs.Looking.{value-taking}
 use Rattle.rules.proofs.Rules.{woken-later, reset-woken}
-use Rattle.rules.specs.History.{near, timelyUnlock, timelyAnswer, commits, writes, leavesOpen, leavesPending, leavesStart, newest, taking, storedAfter, inSession, pendingSince, lastStart, lastWrite, replyToAnswer, replyOutside, replyInside, replyTo}
+use Rattle.rules.specs.History.{near, restartAfter, timelyUnlock, inTime, timelyAnswer, commits, writes, leavesOpen, leavesPending, leavesStart, newest, taking, storedAfter, inSession, pendingSince, lastStart, lastWrite, replyToAnswer, replyOutside, replyInside, replyTo}
 
 -- ---- limits of time, as the rules have them
-
-not-below : (a b : ℕ) → not (ltb a b) ≡ leb b a
-not-below a b =
-    decided (ltb a b)
-    (λ t. rw (t, lt-leb b a (ltb-true a b t)) refl)
-    (λ t. rw (t, le-leb b a (ltb-false a b t)) refl)
 
 within : (a b : ℕ) → leb b a ≡ true → ltb a b ≡ false
 within a b t = le-ltb a b (leb-true b a t)
 
 beyond-it : (a b : ℕ) → leb b a ≡ false → ltb a b ≡ true
 beyond-it a b t = lt-ltb a b (leb-false b a t)
+
+not-late : (since at : Stamp) → not (lateAnswer since at) ≡ inTime since at
+not-late since at =
+    decided (inTime since at)
+    (λ t. rw (t, within _ (at .0) t) refl)
+    (λ t. rw (t, beyond-it _ (at .0) t) refl)
 
 -- ---- the monitor of some answers
 
@@ -63,11 +62,11 @@ unitOf p k start session heard written pending =
 -- ---- a heard message, whatever was so before it
 
 -- a session that goes on from a stamp, for an event at t
-goes-on : (p : PowerOn) (k : Settings) (start at t : Stamp) (written : Setting → Option ℕ) → woken t (unitOf p k start true at written none) ≡ unitOf p k (cond (not (near at t)) (later at 2000) start) (near at t) at written none
+goes-on : (p : PowerOn) (k : Settings) (start at t : Stamp) (written : Setting → Option ℕ) → woken t (unitOf p k start true at written none) ≡ unitOf p k (cond (not (near at t)) (restartAfter at) start) (near at t) at written none
 goes-on p k start at t written =
     decided (near at t)
-    (λ n. rw (n, within (at .0 + 2000) (t .0) n) refl)
-    (λ n. rw (n, beyond-it (at .0 + 2000) (t .0) n) refl)
+    (λ n. rw (n, within _ (t .0) n) refl)
+    (λ n. rw (n, beyond-it _ (t .0) n) refl)
 
 -- a write accepted: the draft with it is what is read with it
 takes : (k : Settings) (written : Setting → Option ℕ) (rating : ℕ) (s : Setting) (v : ℕ) → legal rating s v ≡ true → withValue (taking k written) s v ≡ taking k (λ x. newest (writes rating x (Write s v)) (written x))
@@ -108,7 +107,7 @@ module _ (p : PowerOn) (k : Settings) (start heard : Stamp) (written : Setting �
   inside-leaves Commit = decided storing (λ e. rw e refl) (λ e. rw e refl)
   inside-leaves Unlock = goes-on p k start at t written
   inside-leaves Answer = goes-on p k start at t written
-  inside-leaves (SerialRequest mux) = goes-on p k start at t written
+  inside-leaves (SerialRequest w) = goes-on p k start at t written
   inside-leaves Other = goes-on p k start at t written
 
   -- ---- outside
@@ -116,19 +115,19 @@ module _ (p : PowerOn) (k : Settings) (start heard : Stamp) (written : Setting �
   answer-leaves : (pending : Option Stamp) → woken t (answered (pendingOf pending) at f (before false pending) .monitor) ≡ leaves false pending Answer
   answer-leaves none = refl
   answer-leaves (some since) =
-      rw (not-below (since .0 + 2000) (at .0))
-      (decided (isRight (p .serial) f && leb (at .0) (since .0 + 2000))
+      rw (not-late since at)
+      (decided (isRight (p .serial) f && inTime since at)
       (λ n. rw n (goes-on p k start at t (λ s. none)))
       (λ n. rw n refl))
 
   outside-leaves : (x : Message) (pending : Option Stamp) → woken t (outside x (pendingOf pending) at f (before false pending) .monitor) ≡ leaves false pending x
   outside-leaves Unlock pending =
       decided (timelyUnlock start at)
-      (λ n. rw (n, within (start .0 + 10000) (at .0) n) refl)
-      (λ n. rw (n, beyond-it (start .0 + 10000) (at .0) n) refl)
+      (λ n. rw (n, within _ _ n) refl)
+      (λ n. rw (n, beyond-it _ _ n) refl)
   outside-leaves Answer pending = answer-leaves pending
   outside-leaves Commit pending = refl
-  outside-leaves (SerialRequest mux) pending = refl
+  outside-leaves (SerialRequest w) pending = refl
   outside-leaves (Read s) pending = refl
   outside-leaves (Write s v) pending = refl
   outside-leaves Other pending = refl
@@ -207,23 +206,23 @@ module _ (p : PowerOn) (h : List Event) (at : Stamp) (storing : Bool) (f : Frame
   says-inside Commit = decided storing (λ e. rw e refl) (λ e. rw e refl)
   says-inside Unlock = refl
   says-inside Answer = refl
-  says-inside (SerialRequest mux) = refl
+  says-inside (SerialRequest w) = refl
   says-inside Other = refl
 
   says-answer : (pending : Option Stamp) → answered (pendingOf pending) at f (asked false pending) .reply ≡ replyToAnswer (storedAfter p h .transmit) pending (timelyAnswer (p .serial) f pending at)
   says-answer none = refl
   says-answer (some since) =
-      rw (not-below (since .0 + 2000) (at .0))
-      (decided (isRight (p .serial) f && leb (at .0) (since .0 + 2000)) (λ n. rw n refl) (λ n. rw n refl))
+      rw (not-late since at)
+      (decided (isRight (p .serial) f && inTime since at) (λ n. rw n refl) (λ n. rw n refl))
 
   says-outside : (x : Message) → outside x (pendingOf (pendingSince p h)) at f (asked false (pendingSince p h)) .reply ≡ replyOutside p h (storedAfter p h .transmit) at f x
   says-outside Unlock =
       decided (timelyUnlock (lastStart p h at) at)
-      (λ n. rw (n, within (lastStart p h at .0 + 10000) (at .0) n) refl)
-      (λ n. rw (n, beyond-it (lastStart p h at .0 + 10000) (at .0) n) refl)
+      (λ n. rw (n, within _ _ n) refl)
+      (λ n. rw (n, beyond-it _ _ n) refl)
   says-outside Answer = says-answer (pendingSince p h)
   says-outside Commit = refl
-  says-outside (SerialRequest mux) = refl
+  says-outside (SerialRequest w) = refl
   says-outside (Read s) = refl
   says-outside (Write s v) = refl
   says-outside Other = refl

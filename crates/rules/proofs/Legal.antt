@@ -1,20 +1,21 @@
 -- What the history says is stored is legal. Assumes nothing.
-use Prim.Native.Nat.{ℕ}
+use Prim.Native.Nat.{ℕ, _<_}
 use mathlib.Core.Path.{_≡_, refl, sym, ap, subst, _∙_}
 use mathlib.Core.Bool.{Bool, true, cond, _&&_}
 use mathlib.Core.List.{List, [], _∷_}
 use mathlib.Core.Option.{Option, none, some, Option·getD, Option·some-injective}
-use lib.Dec.{leb, ltb, eqb}
+use lib.Dec.{eqb}
 use borrow.Author.Tests.{eqb-true}
 use Rattle.words.proofs.Tests.{decided, and-left, and-right}
-use Rattle.maintenance.specs.declared.setting.Setting.{Setting}
-use Rattle.maintenance.specs.declared.setting.Setting.the-variants.{ReceiveId, TransmitId, Speed, Voltage, WarningLevel, FaultLevel}
-use Rattle.maintenance.specs.declared.setting.Settings.{Settings}
-use Rattle.maintenance.specs.declared.message.Message.{Message}
-use Rattle.maintenance.specs.declared.message.Message.the-variants.{Other, Unlock, Commit, Answer as Answered, SerialRequest, Read, Write}
-use Rattle.maintenance.specs.Settings.{code, legal}
-use Rattle.maintenance.specs.Messages.{message, heardOn}
-use Rattle.maintenance.proofs.Settings.{Parts, accepted-parts, same-code}
+use Rattle.maintenance_pages.specs.declared.setting.Setting.{Setting}
+use Rattle.maintenance_pages.specs.declared.setting.Setting.the-variants.{ReceiveId, TransmitId, Speed, Voltage, WarningLevel, FaultLevel}
+use Rattle.maintenance_pages.specs.declared.setting.Settings.{Settings}
+use Rattle.maintenance_pages.specs.declared.message.Message.{Message}
+use Rattle.maintenance_pages.specs.declared.message.Message.the-variants.{Other, Unlock, Commit, Answer as Answered, SerialRequest, Read, Write}
+use Rattle.maintenance_pages.specs.Settings.{code, legal}
+use Rattle.maintenance_pages.specs.Messages.{message, heardOn}
+use Rattle.maintenance_pages.specs.Means.{Legal, Acceptable}
+use Rattle.maintenance_pages.proofs.Promise.{promise as maintenance}
 use Rattle.rules.specs.Events.{Event, frameEvent, resetEvent, PowerOn, IsAccepted}
 use Rattle.rules.specs.History.{commits, writes, newest, taking, storedAfter, inSession, lastWrite}
 use Rattle.rules.proofs.Looking.{nothing, write-heard, write-unheard}
@@ -26,12 +27,12 @@ writes-legal : (rating : ℕ) (s : Setting) (x : Message) (v : ℕ) → writes r
 writes-legal rating s Unlock v e = nothing v e
 writes-legal rating s Answered v e = nothing v e
 writes-legal rating s Commit v e = nothing v e
-writes-legal rating s (SerialRequest mux) v e = nothing v e
+writes-legal rating s (SerialRequest w) v e = nothing v e
 writes-legal rating s (Read k) v e = nothing v e
 writes-legal rating s (Write k u) v e =
     decided (legal rating k u && eqb (code k) (code s))
     (λ t.
-    let its : k ≡ s = same-code k s (eqb-true (code k) (code s) (and-right (legal rating k u) (eqb (code k) (code s)) t)) in
+    let its : k ≡ s = maintenance .codes k s (eqb-true (code k) (code s) (and-right (legal rating k u) (eqb (code k) (code s)) t)) in
     let same : u ≡ v = Option·some-injective u v (rw t at e) in
     subst (λ (n : ℕ). legal rating s n ≡ true) same (subst (λ (i : Setting). legal rating i u ≡ true) its (and-left (legal rating k u) (eqb (code k) (code s)) t)))
     (λ t. nothing v (rw t at e))
@@ -61,23 +62,23 @@ module _ (p : PowerOn) where
   taken P none k a b = a
   taken P (some v) k a b = b v refl
 
-  taking-legal : (k : Settings) (written : Setting → Option ℕ) → Parts (p .rating) k → ((s : Setting) (v : ℕ) → written s ≡ some v → legal (p .rating) s v ≡ true) → Parts (p .rating) (taking k written)
+  taking-legal : (k : Settings) (written : Setting → Option ℕ) → Acceptable (p .rating) k → ((s : Setting) (v : ℕ) → written s ≡ some v → Legal (p .rating) s v) → Acceptable (p .rating) (taking k written)
   taking-legal k written a l =
       record {
         rated = a .rated;
-        receive = taken (λ v. legal (p .rating) ReceiveId v ≡ true) (written ReceiveId) (k .receive) (a .receive) (l ReceiveId);
-        transmit = taken (λ v. legal (p .rating) TransmitId v ≡ true) (written TransmitId) (k .transmit) (a .transmit) (l TransmitId);
-        speed = taken (λ v. legal (p .rating) Speed v ≡ true) (written Speed) (k .speed) (a .speed) (l Speed);
-        voltage = taken (λ v. ltb v (p .rating) ≡ true) (written Voltage) (k .voltage) (a .voltage) (λ v q. and-right (leb 1 v) (ltb v (p .rating)) (l Voltage v q));
-        warning = taken (λ v. legal (p .rating) WarningLevel v ≡ true) (written WarningLevel) (k .warning) (a .warning) (l WarningLevel);
-        fault = taken (λ v. legal (p .rating) FaultLevel v ≡ true) (written FaultLevel) (k .fault) (a .fault) (l FaultLevel);
+        receive = taken (Legal (p .rating) ReceiveId) (written ReceiveId) (k .receive) (a .receive) (l ReceiveId);
+        transmit = taken (Legal (p .rating) TransmitId) (written TransmitId) (k .transmit) (a .transmit) (l TransmitId);
+        speed = taken (Legal (p .rating) Speed) (written Speed) (k .speed) (a .speed) (l Speed);
+        voltage = taken (λ v. v < p .rating) (written Voltage) (k .voltage) (a .voltage) (λ v q. l Voltage v q .1);
+        warning = taken (Legal (p .rating) WarningLevel) (written WarningLevel) (k .warning) (a .warning) (l WarningLevel);
+        fault = taken (Legal (p .rating) FaultLevel) (written FaultLevel) (k .fault) (a .fault) (l FaultLevel);
       }
 
-  pub stored-legal : IsAccepted p → (h : List Event) → Parts (p .rating) (storedAfter p h)
+  pub stored-legal : IsAccepted p → (h : List Event) → Acceptable (p .rating) (storedAfter p h)
   unfolding storedAfter
-  stored-legal a [] = accepted-parts (p .rating) (p .settings) a
+  stored-legal a [] = maintenance .accepted (p .rating) (p .settings) .0 a
   stored-legal a (resetEvent at ∷ h) = stored-legal a h
   stored-legal a (frameEvent at storing f ∷ h) =
       decided (heardOn (storedAfter p h) f && inSession p h at && commits (message f) && storing)
-      (λ t. rw t (taking-legal (storedAfter p h) (λ s. lastWrite p h s) (stored-legal a h) (written-legal h)))
+      (λ t. rw t (taking-legal (storedAfter p h) (λ s. lastWrite p h s) (stored-legal a h) (λ s v q. maintenance .legal (p .rating) s v .0 (written-legal h s v q))))
       (λ t. rw t (stored-legal a h))

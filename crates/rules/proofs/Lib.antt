@@ -11,4 +11,5 @@ pub mod OneReading
 pub mod History
 pub mod Legal
 pub mod Identifiers
+pub mod Past
 pub mod Promise

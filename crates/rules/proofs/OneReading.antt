@@ -7,14 +7,14 @@ use mathlib.Core.List.{List, [], _∷_, _++_}
 use mathlib.Core.Logic.{_↔_}
 use mathlib.Core.Option.{Option·getD}
 use native.Mathlib.Omega.{arith}
-use Rattle.maintenance.specs.declared.setting.Setting.{Setting}
-use Rattle.maintenance.specs.declared.setting.Settings.{Settings}
-use Rattle.maintenance.specs.Settings.{valueOf}
-use Rattle.maintenance.specs.Messages.{heardOn}
+use Rattle.maintenance_pages.specs.declared.setting.Setting.{Setting}
+use Rattle.maintenance_pages.specs.declared.setting.Settings.{Settings}
+use Rattle.maintenance_pages.specs.Settings.{valueOf}
+use Rattle.maintenance_pages.specs.Messages.{heardOn}
 use Rattle.time.specs.declared.Stamp.{Stamp}
 use Rattle.rules.specs.Events.{Event, frameEvent, resetEvent, PowerOn, lastStamp, Run}
 use Rattle.rules.specs.History.{unlocks, answers, commits}
-use Rattle.rules.specs.Demand.{Reading, Heard, heardIn, No, Close, lastAccepted, Past, heardSince, Unlocked, Opened, Stores, Changes, Silent, Start, at-power-on, at-reset, at-commit, after-silence, LastStart, Demand}
+use Rattle.rules.specs.Demand.{Reading, Heard, heardIn, No, Close, lastAccepted, Past, heardSince, Unlocked, Opened, Stores, Changes, Silent, Start, at-power-on, at-reset, at-commit, after-silence, LastStart, Demand, Same}
 use Rattle.rules.proofs.Demand.{same-settings, by-store}
 
 -- ---- places in a run
@@ -33,11 +33,6 @@ before-that P [] e h b = b
 before-that P (x ∷ since) e h b = before-that P since e h (b .1)
 
 -- ---- two readings that say the same
-
-pub record Same (p : PowerOn) (r r′ : Reading) (h : List Event) : Type 0 where
-  pub stored : r .stored h ≡ r′ .stored h
-  pub session : (t : Stamp) → lastStamp p h .0 ≤ t .0 → r .session h t ≡ r′ .session h t
-  pub start : (t : Stamp) → lastStamp p h .0 ≤ t .0 → r .start h t ≡ r′ .start h t
 
 flip : (p : PowerOn) (r r′ : Reading) (h : List Event) → Same p r r′ h → Same p r′ r h
 flip p r r′ h s = record { stored = sym (s .stored); session = λ t l. sym (s .session t l); start = λ t l. sym (s .start t l) }
@@ -211,8 +206,8 @@ module _ (p : PowerOn) (r r′ : Reading) (d : Demand p r) (d′ : Demand p r′
       let b = all-same h (run .1 .1) in
       (record { stored = next-same e h run (b .0) (b .1); session = sessions-same (e ∷ h) run b; start = starts-same (e ∷ h) run b }, b)
 
-pub one-reading : (p : PowerOn) (r r′ : Reading) → Demand p r → Demand p r′ → (h : List Event) → Run p h → r .stored h ≡ r′ .stored h
-one-reading p r r′ d d′ h run = all-same p r r′ d d′ h run .0 .stored
+pub one-reading : (p : PowerOn) (r r′ : Reading) → Demand p r → Demand p r′ → (h : List Event) → Run p h → Same p r r′ h
+one-reading p r r′ d d′ h run = all-same p r r′ d d′ h run .0
 
 -- ---- what agrees with it
 

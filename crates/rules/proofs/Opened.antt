@@ -4,16 +4,15 @@ use mathlib.Core.Path.{_≡_, refl, sym, ap, subst, _∙_}
 use mathlib.Core.Bool.{Bool, true, false, _&&_}
 use mathlib.Core.List.{List, [], _∷_, _++_}
 use mathlib.Core.Option.{Option, none, some, Option·some-injective}
-use lib.Dec.{leb}
 use borrow.Author.Tests.{leb-true, not-true}
 use Rattle.words.proofs.Tests.{decided, false-true, and-left, and-right}
 use Rattle.codec_pages.specs.declared.frame.Frame.{Frame}
-use Rattle.maintenance.specs.declared.message.Message.{Message}
-use Rattle.maintenance.specs.declared.message.Message.the-variants.{Other, Unlock, Commit, Answer, SerialRequest, Read, Write}
-use Rattle.maintenance.specs.Messages.{message, heardOn, isRight}
+use Rattle.maintenance_pages.specs.declared.message.Message.{Message}
+use Rattle.maintenance_pages.specs.declared.message.Message.the-variants.{Other, Unlock, Commit, Answer, SerialRequest, Read, Write}
+use Rattle.maintenance_pages.specs.Messages.{message, heardOn, isRight}
 use Rattle.time.specs.declared.Stamp.{Stamp}
 use Rattle.rules.specs.Events.{Event, frameEvent, resetEvent, PowerOn}
-use Rattle.rules.specs.History.{near, timelyUnlock, timelyAnswer, unlocks, answers, commits, leavesOpen, leavesPending, storedAfter, inSession, pendingSince, lastStart}
+use Rattle.rules.specs.History.{near, timelyUnlock, inTime, timelyAnswer, unlocks, answers, commits, leavesOpen, leavesPending, storedAfter, inSession, pendingSince, lastStart}
 use Rattle.rules.specs.Demand.{lookingBack, Heard, heardIn, No, Close, Past, heardSince, Unlocked, Opened}
 use Rattle.rules.proofs.Looking.{nothing, answers-only, session-unheard, pending-unheard, session-heard, pending-heard, unheard-since, heard-since}
 
@@ -56,7 +55,7 @@ left-pending false Unlock true at before u e own old = own refl refl refl (Optio
 left-pending false Unlock false at before u e own old = nothing u e
 left-pending false Answer timely at before u e own old = nothing u e
 left-pending false Commit timely at before u e own old = old refl refl e
-left-pending false (SerialRequest mux) timely at before u e own old = old refl refl e
+left-pending false (SerialRequest w) timely at before u e own old = old refl refl e
 left-pending false (Read s) timely at before u e own old = old refl refl e
 left-pending false (Write s v) timely at before u e own old = old refl refl e
 left-pending false Other timely at before u e own old = old refl refl e
@@ -94,7 +93,7 @@ pending-unlocked p (frameEvent at storing f ∷ h) u e =
     decided (heardOn (storedAfter p h) f)
     (λ x.
     left-pending (inSession p h at) (message f) (timelyUnlock (lastStart p h at) at) at (pendingSince p h) u (sym (pending-heard p at storing f h x) ∙ e)
-    (λ o m l q. pends-now p h at storing f u x m o (leb-true (at .0) (lastStart p h at .0 + 10000) l) q)
+    (λ o m l q. pends-now p h at storing f u x m o (leb-true _ _ l) q)
     (λ n a q. pends-heard p h at storing f u x n a (pending-unlocked p h u q)))
     (λ x. pends-unheard p h at storing f u x (pending-unlocked p h u (sym (pending-unheard p at storing f h x) ∙ e)))
 
@@ -110,7 +109,7 @@ left-open false x right e goes-on begins =
 answered-timely : {X : Type 0} (serial : List ℕ) (f : Frame) (pending : Option Stamp) (at : Stamp) → timelyAnswer serial f pending at ≡ true → ((u : Stamp) → pending ≡ some u → isRight serial f ≡ true → at .0 ≤ u .0 + 2000 → X) → X
 answered-timely serial f none at e then = false-true (sym e)
 answered-timely serial f (some u) at e then =
-    then u refl (and-left (isRight serial f) (leb (at .0) (u .0 + 2000)) e) (leb-true (at .0) (u .0 + 2000) (and-right (isRight serial f) (leb (at .0) (u .0 + 2000)) e))
+    then u refl (and-left (isRight serial f) (inTime u at) e) (leb-true _ _ (and-right (isRight serial f) (inTime u at) e))
 
 module _ (p : PowerOn) (h : List Event) (s : Stamp) (works : Bool) (g : Frame) (t : Stamp) where
   opened-further : (v : Stamp) (w : Opened p (lookingBack p) h v) → (let l = heardSince (lookingBack p) (frameEvent s works g ∷ h) (further p h s works g (w .answer)) in No commits l → Close (w .answer .at) l t → Opened p (lookingBack p) (frameEvent s works g ∷ h) t)
@@ -150,7 +149,7 @@ session-opened p (frameEvent at storing f ∷ h) t e =
     let right = timelyAnswer (p .serial) f (pendingSince p h) at in
     let left = leavesOpen (inSession p h at) (message f) right in
     let both : (left && near at t) ≡ true = sym (session-heard p at storing f h x t) ∙ e in
-    let n = leb-true (t .0) (at .0 + 2000) (and-right left (near at t) both) in
+    let n = leb-true _ _ (and-right left (near at t) both) in
     left-open (inSession p h at) (message f) right (and-left left (near at t) both)
     (λ o c. opened-heard p h at storing f t x c n (session-opened p h at o))
     (λ o m r.

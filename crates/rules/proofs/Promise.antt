@@ -3,18 +3,17 @@ use mathlib.Core.Path.{sym, ap}
 use mathlib.Core.List.{List}
 use Rattle.time.specs.declared.Stamp.{Stamp}
 use Rattle.time.specs.Times.{ticksBetween}
-use Rattle.maintenance.proofs.Settings.{parts-accepted}
 use Rattle.rules.specs.Events.{Event, PowerOn, IsAccepted, Run}
 use Rattle.rules.specs.Rules.{unitAfter}
-use Rattle.rules.specs.History.{storedAfter}
-use Rattle.rules.specs.Demand.{lookingBack}
+use Rattle.rules.specs.Demand.{lookingBack, Same}
 use Rattle.rules.specs.Promise.{stateOf, WorkedOut, Demand3, Sound, Promise}
 use Rattle.rules.proofs.Rules.{unheard, starts}
 use Rattle.rules.proofs.Speed.{speed-silent}
 use Rattle.rules.proofs.Replies.{outside-replies, session-replies, meets-woken}
 use Rattle.rules.proofs.History.{unit-serial, unit-rating, unit-stored, unit-session, unit-start, unit-reply}
 use Rattle.rules.proofs.Demand.{demand-back}
-use Rattle.rules.proofs.OneReading.{Same, one-reading, meets-too}
+use Rattle.rules.proofs.OneReading.{one-reading, meets-too}
+use Rattle.rules.proofs.Past.{same-event, same-history}
 use Rattle.rules.proofs.Legal.{stored-legal}
 use Rattle.rules.proofs.Identifiers.{reply-on}
 
@@ -49,8 +48,8 @@ demand-3 p =
 
 sound : (p : PowerOn) → IsAccepted p → (h : List Event) → Sound p h
 sound p a h =
-    let parts = stored-legal p a h in
-    record { legal = parts-accepted (p .rating) (storedAfter p h) parts; identifier = λ e. reply-on p h e (parts .transmit) }
+    let its = stored-legal p a h in
+    record { legal = its; identifier = λ e. reply-on p h e (its .transmit) }
 
 pub promise : Promise
 promise =
@@ -61,6 +60,8 @@ promise =
       speed = speed-silent;
       outside = outside-replies;
       session = session-replies;
+      past-length = same-event;
+      past-lengths = same-history;
       worked-out = worked-out;
       demand-3 = demand-3;
       sound = sound;

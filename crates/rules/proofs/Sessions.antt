@@ -7,12 +7,12 @@ use mathlib.Core.Option.{none, some}
 use borrow.Author.Tests.{le-leb}
 use Rattle.words.proofs.Tests.{decided, false-true}
 use Rattle.codec_pages.specs.declared.frame.Frame.{Frame}
-use Rattle.maintenance.specs.declared.setting.Setting.{Setting}
-use Rattle.maintenance.specs.declared.message.Message.the-variants.{Unlock}
-use Rattle.maintenance.specs.Messages.{message, heardOn}
+use Rattle.maintenance_pages.specs.declared.setting.Setting.{Setting}
+use Rattle.maintenance_pages.specs.declared.message.Message.the-variants.{Unlock}
+use Rattle.maintenance_pages.specs.Messages.{message, heardOn}
 use Rattle.time.specs.declared.Stamp.{Stamp}
 use Rattle.rules.specs.Events.{Event, frameEvent, resetEvent, PowerOn}
-use Rattle.rules.specs.History.{unlocks, answers, commits, writes, newest, storedAfter, inSession, pendingSince, lastStart, lastWrite}
+use Rattle.rules.specs.History.{near, timelyUnlock, inTime, unlocks, answers, commits, writes, newest, storedAfter, inSession, pendingSince, lastStart, lastWrite}
 use Rattle.rules.specs.Demand.{lookingBack, Heard, heardIn, No, hasReset, Close, lastAccepted, heardSince, Unlocked, Opened}
 use Rattle.rules.proofs.Looking.{session-unheard, pending-unheard, write-unheard, session-heard, pending-heard, write-heard, unheard-since, heard-since}
 
@@ -44,7 +44,7 @@ module _ (p : PowerOn) (at : Stamp) (storing : Bool) (f : Frame) (before : List 
 
   challenge-made : heardOn (storedAfter p before) f ≡ true → message f ≡ Unlock → inSession p before at ≡ false → at .0 ≤ lastStart p before at .0 + 10000 → Challenged here
   challenge-made x m o l = (
-    pending-heard p at storing f before x ∙ rw (o, m, le-leb (at .0) (lastStart p before at .0 + 10000) l) refl,
+    pending-heard p at storing f before x ∙ (let timely : timelyUnlock (lastStart p before at) at ≡ true = le-leb _ _ l in rw (o, m, timely) refl),
     λ t. session-heard p at storing f before x t ∙ rw (o, m) refl,
   )
 
@@ -88,7 +88,7 @@ module _ (p : PowerOn) (at : Stamp) (storing : Bool) (f : Frame) (before : List 
       (λ s works g since l x older n t c.
       let q = older (n .1) s (c .1) in
       record {
-        open-for = session-heard p s works g (since ++ here) x t ∙ rw (q .open-for, n .0, le-leb (t .0) (s .0 + 2000) (c .0)) refl;
+        open-for = session-heard p s works g (since ++ here) x t ∙ (let soon : near s t ≡ true = le-leb _ _ (c .0) in rw (q .open-for, n .0, soon) refl);
         written = λ k. write-heard p s works g (since ++ here) x k ∙ rw (q .open-for) (ap (newest (writes (p .rating) k (message g))) (q .written k));
       })
 
@@ -106,7 +106,10 @@ begins p h t w =
     let a = w .answer in
     let c = unlocked-pending p (a .before) (w .unlocked) in
     record {
-      opens = λ u n. session-heard p (a .at) (a .storing) (a .frame) (a .before) (a .heard) u ∙ rw (c .1 (a .at), w .answering, c .0, w .right, le-leb (a .at .0) (w .unlocked .unlock .at .0 + 2000) (w .timely), le-leb (u .0) (a .at .0 + 2000) n) refl;
+      opens = λ u n.
+          let timely : inTime (w .unlocked .unlock .at) (a .at) ≡ true = le-leb _ _ (w .timely) in
+          let soon : near (a .at) u ≡ true = le-leb _ _ n in
+          session-heard p (a .at) (a .storing) (a .frame) (a .before) (a .heard) u ∙ rw (c .1 (a .at), w .answering, c .0, w .right, timely, soon) refl;
       unwritten = λ s. write-heard p (a .at) (a .storing) (a .frame) (a .before) (a .heard) s ∙ rw (c .1 (a .at)) refl;
     }
 

@@ -7,8 +7,8 @@ use borrow.Author.Tests.{leb-true, leb-false, le-leb, lt-leb, not-true}
 use native.Mathlib.Omega.{arith}
 use Rattle.words.proofs.Tests.{decided, false-true, and-left, and-right}
 use Rattle.codec_pages.specs.declared.frame.Frame.{Frame}
-use Rattle.maintenance.specs.declared.message.Message.{Message}
-use Rattle.maintenance.specs.Messages.{message, heardOn}
+use Rattle.maintenance_pages.specs.declared.message.Message.{Message}
+use Rattle.maintenance_pages.specs.Messages.{message, heardOn}
 use Rattle.time.specs.declared.Stamp.{Stamp}
 use Rattle.time.specs.Times.{later}
 use Rattle.rules.specs.Events.{Event, frameEvent, resetEvent, PowerOn, stampOf, lastStamp, Run}

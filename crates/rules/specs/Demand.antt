@@ -7,12 +7,12 @@ use mathlib.Core.List.{List, [], _∷_, _++_}
 use mathlib.Core.Logic.{_↔_}
 use mathlib.Core.Option.{Option, none, Option·getD}
 use Rattle.codec_pages.specs.declared.frame.Frame.{Frame}
-use Rattle.maintenance.specs.declared.setting.Setting.{Setting}
-use Rattle.maintenance.specs.declared.setting.Settings.{Settings}
-use Rattle.maintenance.specs.declared.message.Message.{Message}
-use Rattle.maintenance.specs.declared.message.Message.the-variants.{Unlock, Commit, Answer}
-use Rattle.maintenance.specs.Settings.{valueOf}
-use Rattle.maintenance.specs.Messages.{message, heardOn, isRight}
+use Rattle.maintenance_pages.specs.declared.setting.Setting.{Setting}
+use Rattle.maintenance_pages.specs.declared.setting.Settings.{Settings}
+use Rattle.maintenance_pages.specs.declared.message.Message.{Message}
+use Rattle.maintenance_pages.specs.declared.message.Message.the-variants.{Unlock, Commit, Answer}
+use Rattle.maintenance_pages.specs.Settings.{valueOf}
+use Rattle.maintenance_pages.specs.Messages.{message, heardOn, isRight}
 use Rattle.time.specs.declared.Stamp.{Stamp}
 use Rattle.time.specs.Times.{later}
 use Rattle.rules.specs.Events.{Event, frameEvent, resetEvent, PowerOn, lastStamp, Run}
@@ -155,3 +155,9 @@ pub record Demand (p : PowerOn) (r : Reading) : Type 0 where
   -- and the two notions that the words lean on, at places before the event, mean what the words say there
   pub sessions : (h : List Event) → Run p h → (t : Stamp) → lastStamp p h .0 ≤ t .0 → r .session h t ≡ true ↔ Opened p r h t
   pub starts : (h : List Event) → Run p h → (t : Stamp) → lastStamp p h .0 ≤ t .0 → LastStart p r h t (r .start h t)
+
+-- two readings say the same of a history: the six, and at every stamp from its last event on the session and the start
+pub record Same (p : PowerOn) (r r′ : Reading) (h : List Event) : Type 0 where
+  pub stored : r .stored h ≡ r′ .stored h
+  pub session : (t : Stamp) → lastStamp p h .0 ≤ t .0 → r .session h t ≡ r′ .session h t
+  pub start : (t : Stamp) → lastStamp p h .0 ≤ t .0 → r .start h t ≡ r′ .start h t

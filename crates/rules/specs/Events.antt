@@ -7,8 +7,8 @@ use Rattle.codec_pages.specs.declared.frame.Frame.{Frame}
 use Rattle.codec_pages.specs.Frames.{overLimits}
 use Rattle.time.specs.declared.Stamp.{Stamp}
 use Rattle.time.specs.Times.{earlier}
-use Rattle.maintenance.specs.declared.setting.Settings.{Settings}
-use Rattle.maintenance.specs.Settings.{accepted}
+use Rattle.maintenance_pages.specs.declared.setting.Settings.{Settings}
+use Rattle.maintenance_pages.specs.Settings.{accepted}
 
 -- "Events: a frame with a stamp and a note whether storage works, or a reset with a stamp."
 pub data Event : Type 0 where

@@ -4,7 +4,7 @@ use mathlib.Core.Bool.{Bool, true, false}
 use mathlib.Core.List.{List}
 use lib.ListN.{take}
 use Rattle.codec_pages.specs.declared.frame.Frame.{Frame}
-use Rattle.maintenance.specs.declared.message.Reply.{Reply}
+use Rattle.maintenance_pages.specs.declared.message.Reply.{Reply}
 
 -- the monitor is on; no reply; the identifier and the bytes of a reply; the ticks of the uptime
 pub data Given : Type 0 where

@@ -7,14 +7,14 @@ use mathlib.Core.List.{List, [], _∷_}
 use mathlib.Core.Option.{Option, none, some, Option·getD}
 use lib.Dec.{eqb, leb}
 use Rattle.codec_pages.specs.declared.frame.Frame.{Frame}
-use Rattle.maintenance.specs.declared.setting.Setting.{Setting}
-use Rattle.maintenance.specs.declared.setting.Setting.the-variants.{ReceiveId, TransmitId, Speed, Voltage, WarningLevel, FaultLevel}
-use Rattle.maintenance.specs.declared.setting.Settings.{Settings}
-use Rattle.maintenance.specs.declared.message.Message.{Message}
-use Rattle.maintenance.specs.declared.message.Message.the-variants.{Other, Unlock, Commit, Answer, SerialRequest, Read, Write}
-use Rattle.maintenance.specs.declared.message.Reply.{Reply}
-use Rattle.maintenance.specs.Settings.{code, legal, valueOf}
-use Rattle.maintenance.specs.Messages.{message, heardOn, isRight, quiet, ack, nak, challenged, shown, serialReport}
+use Rattle.maintenance_pages.specs.declared.setting.Setting.{Setting}
+use Rattle.maintenance_pages.specs.declared.setting.Setting.the-variants.{ReceiveId, TransmitId, Speed, Voltage, WarningLevel, FaultLevel}
+use Rattle.maintenance_pages.specs.declared.setting.Settings.{Settings}
+use Rattle.maintenance_pages.specs.declared.message.Message.{Message}
+use Rattle.maintenance_pages.specs.declared.message.Message.the-variants.{Other, Unlock, Commit, Answer, SerialRequest, Read, Write}
+use Rattle.maintenance_pages.specs.declared.message.Reply.{Reply}
+use Rattle.maintenance_pages.specs.Settings.{code, legal, valueOf}
+use Rattle.maintenance_pages.specs.Messages.{message, heardOn, isRight, quiet, ack, nak, challenged, shown, serialReport}
 use Rattle.time.specs.declared.Stamp.{Stamp}
 use Rattle.time.specs.Times.{later}
 use Rattle.rules.specs.Events.{Event, frameEvent, resetEvent, PowerOn}
@@ -25,14 +25,22 @@ use Rattle.rules.specs.Events.{Event, frameEvent, resetEvent, PowerOn}
 abbrev pub near : Stamp → Stamp → Bool
 near before at = leb (at .0) (before .0 + 2000)
 
+-- "that message's stamp plus 2,000"
+abbrev pub restartAfter : Stamp → Stamp
+restartAfter at = later at 2000
+
 -- "a timely unlock": "At most 10,000 ms after the last start"
 abbrev pub timelyUnlock : Stamp → Stamp → Bool
 timelyUnlock start at = leb (at .0) (start .0 + 10000)
 
+-- "at most 2,000 ms after the challenge"
+abbrev pub inTime : Stamp → Stamp → Bool
+inTime challenge at = leb (at .0) (challenge .0 + 2000)
+
 -- "its timely right answer": "Right and at most 2,000 ms after the challenge", if there is one
 abbrev pub timelyAnswer : List ℕ → Frame → Option Stamp → Stamp → Bool
 timelyAnswer serial f none at = false
-timelyAnswer serial f (some challenge) at = isRight serial f && leb (at .0) (challenge .0 + 2000)
+timelyAnswer serial f (some challenge) at = isRight serial f && inTime challenge at
 
 -- ---- what is said
 
@@ -40,7 +48,7 @@ abbrev pub unlocks : Message → Bool
 unlocks Unlock = true
 unlocks Answer = false
 unlocks Commit = false
-unlocks (SerialRequest mux) = false
+unlocks (SerialRequest w) = false
 unlocks (Read s) = false
 unlocks (Write s v) = false
 unlocks Other = false
@@ -49,7 +57,7 @@ abbrev pub answers : Message → Bool
 answers Unlock = false
 answers Answer = true
 answers Commit = false
-answers (SerialRequest mux) = false
+answers (SerialRequest w) = false
 answers (Read s) = false
 answers (Write s v) = false
 answers Other = false
@@ -58,7 +66,7 @@ abbrev pub commits : Message → Bool
 commits Unlock = false
 commits Answer = false
 commits Commit = true
-commits (SerialRequest mux) = false
+commits (SerialRequest w) = false
 commits (Read s) = false
 commits (Write s v) = false
 commits Other = false
@@ -68,7 +76,7 @@ abbrev pub writes : ℕ → Setting → Message → Option ℕ
 writes rating s Unlock = none
 writes rating s Answer = none
 writes rating s Commit = none
-writes rating s (SerialRequest mux) = none
+writes rating s (SerialRequest w) = none
 writes rating s (Read k) = none
 writes rating s (Write k v) = cond (legal rating k v && eqb (code k) (code s)) (some v) none
 writes rating s Other = none
@@ -88,7 +96,7 @@ leavesPending false x timely at before = cond (unlocks x) (cond timely (some at)
 -- for an event at a stamp t: a commit in a session starts the monitor; so does a silence after what leaves a session open
 abbrev pub leavesStart : Bool → Message → Bool → Stamp → Stamp → Stamp → Stamp
 leavesStart session x right at t before =
-    cond (session && commits x) at (cond (leavesOpen session x right && not (near at t)) (later at 2000) before)
+    cond (session && commits x) at (cond (leavesOpen session x right && not (near at t)) (restartAfter at) before)
 
 -- the newest of two
 abbrev pub newest : Option ℕ → Option ℕ → Option ℕ
@@ -169,7 +177,7 @@ replyToAnswer transmit (some challenge) right = cond right (ack transmit) (nak t
 abbrev pub replyOutside : PowerOn → List Event → ℕ → Stamp → Frame → Message → Reply
 replyOutside p h transmit at f Unlock = cond (timelyUnlock (lastStart p h at) at) (challenged transmit (p .serial)) (nak transmit)
 replyOutside p h transmit at f Answer = replyToAnswer transmit (pendingSince p h) (timelyAnswer (p .serial) f (pendingSince p h) at)
-replyOutside p h transmit at f (SerialRequest mux) = serialReport transmit (p .serial) mux
+replyOutside p h transmit at f (SerialRequest w) = serialReport transmit (p .serial) w
 replyOutside p h transmit at f Commit = quiet
 replyOutside p h transmit at f (Read s) = quiet
 replyOutside p h transmit at f (Write s v) = quiet
@@ -181,7 +189,7 @@ replyInside p h transmit storing (Write s v) = cond (legal (p .rating) s v) (ack
 replyInside p h transmit storing Commit = cond storing (ack transmit) (nak transmit)
 replyInside p h transmit storing Unlock = nak transmit
 replyInside p h transmit storing Answer = nak transmit
-replyInside p h transmit storing (SerialRequest mux) = nak transmit
+replyInside p h transmit storing (SerialRequest w) = nak transmit
 replyInside p h transmit storing Other = nak transmit
 
 -- the reply to an event after a history, on the transmit identifier stored before it

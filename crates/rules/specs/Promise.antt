@@ -4,11 +4,12 @@ use mathlib.Core.Path.{_≡_}
 use mathlib.Core.Bool.{Bool, true, false}
 use mathlib.Core.List.{List, _∷_}
 use Rattle.codec_pages.specs.declared.frame.Frame.{Frame}
-use Rattle.maintenance.specs.declared.setting.Setting.the-variants.{Speed}
-use Rattle.maintenance.specs.declared.setting.Settings.{Settings}
-use Rattle.maintenance.specs.declared.message.Reply.{Reply}
-use Rattle.maintenance.specs.Settings.{accepted, withValue}
-use Rattle.maintenance.specs.Messages.{quiet as noReply}
+use Rattle.maintenance_pages.specs.declared.setting.Setting.the-variants.{Speed}
+use Rattle.maintenance_pages.specs.declared.setting.Settings.{Settings}
+use Rattle.maintenance_pages.specs.declared.message.Reply.{Reply}
+use Rattle.maintenance_pages.specs.Settings.{withValue}
+use Rattle.maintenance_pages.specs.Means.{Acceptable}
+use Rattle.maintenance_pages.specs.Messages.{quiet as noReply}
 use Rattle.time.specs.declared.Stamp.{Stamp}
 use Rattle.rules.specs.declared.unit.Session.{Session}
 use Rattle.rules.specs.declared.unit.Pending.{Pending}
@@ -21,7 +22,8 @@ use Rattle.rules.specs.Events.{Event, PowerOn, IsAccepted, lastStamp, Ru
 use Rattle.rules.specs.Rules.{turn, started, woken, heard, framed, wasReset, uptimeOf, step, unitAfter}
 use Rattle.rules.specs.Replies.{OutsideReplies, SessionReplies}
 use Rattle.rules.specs.History.{storedAfter, inSession, lastStart, replyTo}
-use Rattle.rules.specs.Demand.{Reading, Demand, lookingBack}
+use Rattle.rules.specs.Past.{AlikeEvents, AlikeHistories, SameEvent, SameHistory}
+use Rattle.rules.specs.Demand.{Reading, Demand, lookingBack, Same}
 
 -- ---- rules
 
@@ -80,7 +82,7 @@ pub record WorkedOut (p : PowerOn) (h : List Event) : Type 0 where
 pub record Demand3 (p : PowerOn) : Type 0 where
   pub unit : Demand p (stateOf (λ h. unitAfter p h))
   pub history : Demand p (lookingBack p)
-  pub one : (r r′ : Reading) → Demand p r → Demand p r′ → (h : List Event) → Run p h → r .stored h ≡ r′ .stored h
+  pub one : (r r′ : Reading) → Demand p r → Demand p r′ → (h : List Event) → Run p h → Same p r r′ h
 
 -- a reply is an extended frame on the identifier, of eight bytes at most
 abbrev pub OnIdentifier : ℕ → Reply → Type 0
@@ -88,7 +90,7 @@ OnIdentifier identifier r = r .sent ≡ true → (r .frame .extended ≡ true) �
 
 -- what the history says is legal, and said on the stored identifier
 pub record Sound (p : PowerOn) (h : List Event) : Type 0 where
-  pub legal : accepted (p .rating) (storedAfter p h) ≡ true
+  pub legal : Acceptable (p .rating) (storedAfter p h)
   -- "Every reply is on the transmit identifier stored before the event."
   pub identifier : (e : Event) → OnIdentifier (storedAfter p h .transmit) (replyTo p h e)
 
@@ -101,6 +103,8 @@ pub record Promise : Type 0 where
   pub speed : SpeedChangesNothing
   pub outside : (m : Monitor) (pending : Pending) (at : Stamp) (storing : Bool) (f : Frame) → m .phase ≡ Outside pending → heard f m ≡ true → OutsideReplies m pending at storing f
   pub session : (m : Monitor) (s : Session) (at : Stamp) (storing : Bool) (f : Frame) → m .phase ≡ InSession s → at .0 ≤ s .heard .0 + 2000 → heard f m ≡ true → SessionReplies m s at storing f
+  pub past-length : (e e′ : Event) → AlikeEvents e e′ → SameEvent e e′
+  pub past-lengths : (p : PowerOn) (h h′ : List Event) → AlikeHistories h h′ → Run p h → SameHistory p h h′
   pub worked-out : (p : PowerOn) (h : List Event) → Run p h → WorkedOut p h
   pub demand-3 : (p : PowerOn) → Demand3 p
   pub sound : (p : PowerOn) → IsAccepted p → (h : List Event) → Sound p h

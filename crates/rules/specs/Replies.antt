@@ -1,20 +1,19 @@
 -- The replies of the maintenance page, and of document 01 where it completes it, as what a heard frame leaves: a row for each sentence, with its
--- numbers and bytes. `Promise` says that they are the monitor's.
+-- numbers and bytes; which frame it is about is said by length and bytes (`Tells`). `Promise` says that they are the monitor's.
 use Prim.Native.Nat.{ℕ, _+_, _<_, _≤_}
 use mathlib.Core.Path.{_≡_}
-use mathlib.Core.Bool.{Bool, true, false, _&&_}
+use mathlib.Core.Bool.{Bool, true, false}
 use mathlib.Core.List.{List, [], _∷_}
-use mathlib.Core.Logic.{_⊎_}
-use lib.Dec.{eqb}
 use Rattle.words.specs.declared.Order.the-variants.{Big}
-use Rattle.words.specs.Words.{bytesOf}
+use Rattle.words.specs.Words.{Bytes, bytesOf}
 use Rattle.codec_pages.specs.declared.frame.Frame.{Frame}
-use Rattle.codec_pages.specs.Table.{part, numberAt}
-use Rattle.maintenance.specs.declared.setting.Setting.{Setting}
-use Rattle.maintenance.specs.declared.setting.Named.{Named}
-use Rattle.maintenance.specs.declared.setting.Named.the-variants.{Unknown, Known}
-use Rattle.maintenance.specs.Settings.{code, settingOf, legal, valueOf, withValue}
-use Rattle.maintenance.specs.Messages.{byte, isUnlock, isCommit, isAnswer, asksSerial, answerTo, serialReport, quiet, says}
+use Rattle.codec_pages.specs.Table.{part}
+use Rattle.maintenance_pages.specs.declared.setting.Setting.{Setting}
+use Rattle.maintenance_pages.specs.declared.message.SerialWord.{SerialWord}
+use Rattle.maintenance_pages.specs.declared.message.Message.the-variants.{Unlock, Commit, Answer, SerialRequest, Read, Write}
+use Rattle.maintenance_pages.specs.Settings.{valueOf, withValue}
+use Rattle.maintenance_pages.specs.Messages.{byte, answerTo, serialReport, quiet, says}
+use Rattle.maintenance_pages.specs.Means.{Tells, Legal, wordBytes}
 use Rattle.time.specs.declared.Stamp.{Stamp}
 use Rattle.rules.specs.declared.unit.Pending.{Pending}
 use Rattle.rules.specs.declared.unit.Pending.the-variants.{Nothing, Since}
@@ -43,29 +42,23 @@ Right m f = part (f .bytes) 1 7 ≡ answerTo (part (m .serial) 0 7)
 -- ---- a frame heard outside a session
 
 pub record OutsideReplies (m : Monitor) (pending : Pending) (at : Stamp) (storing : Bool) (f : Frame) : Type 0 where
-  pub unlock : isUnlock f ≡ true → at .0 ≤ m .start .0 + 10000 → framed at storing f m ≡ moves m (Outside (Since at)) (0x14 ∷ part (m .serial) 0 7)
-  pub late-unlock : isUnlock f ≡ true → m .start .0 + 10000 < at .0 → framed at storing f m ≡ moves m (Outside Nothing) NAK
-  pub answer : (since : Stamp) → isAnswer f ≡ true → pending ≡ Since since → Right m f → at .0 ≤ since .0 + 2000 → framed at storing f m ≡ moves m (sessionAt at (m .stored)) ACK
-  pub wrong-answer : (since : Stamp) → isAnswer f ≡ true → pending ≡ Since since → (Right m f → ⊥) → framed at storing f m ≡ moves m (Outside Nothing) NAK
-  pub late-answer : (since : Stamp) → isAnswer f ≡ true → pending ≡ Since since → since .0 + 2000 < at .0 → framed at storing f m ≡ moves m (Outside Nothing) NAK
-  pub no-challenge : isAnswer f ≡ true → pending ≡ Nothing → framed at storing f m ≡ turn m quiet
-  pub serial : (f .length ≡ 1) ⊎ (f .length ≡ 3) → 0x08 ≤ byte f 0 → byte f 0 ≤ 0x0B → framed at storing f m ≡ turn m (serialReport (m .stored .transmit) (m .serial) (byte f 0))
-  pub all-else : isUnlock f ≡ false → isAnswer f ≡ false → asksSerial f ≡ false → framed at storing f m ≡ turn m quiet
+  pub unlock : Tells Unlock f → at .0 ≤ m .start .0 + 10000 → framed at storing f m ≡ moves m (Outside (Since at)) (0x14 ∷ part (m .serial) 0 7)
+  pub late-unlock : Tells Unlock f → m .start .0 + 10000 < at .0 → framed at storing f m ≡ moves m (Outside Nothing) NAK
+  pub answer : (since : Stamp) → Tells Answer f → pending ≡ Since since → Right m f → at .0 ≤ since .0 + 2000 → framed at storing f m ≡ moves m (sessionAt at (m .stored)) ACK
+  pub wrong-answer : (since : Stamp) → Tells Answer f → pending ≡ Since since → (Right m f → ⊥) → framed at storing f m ≡ moves m (Outside Nothing) NAK
+  pub late-answer : (since : Stamp) → Tells Answer f → pending ≡ Since since → since .0 + 2000 < at .0 → framed at storing f m ≡ moves m (Outside Nothing) NAK
+  pub no-challenge : Tells Answer f → pending ≡ Nothing → framed at storing f m ≡ turn m quiet
+  -- whatever the monitor holds, the report that the codec builds; and its bytes, where the identifier and the serial number are such
+  pub serial : (w : SerialWord) → Tells (SerialRequest w) f → framed at storing f m ≡ turn m (serialReport (m .stored .transmit) (m .serial) w)
+  pub serial-bytes : (w : SerialWord) → Tells (SerialRequest w) f → m .stored .transmit ≤ 0x1FFFFFFF → Bytes (m .serial) → framed at storing f m ≡ turn m (says (m .stored .transmit) (wordBytes w (m .serial)))
+  pub all-else : (Tells Unlock f → ⊥) → (Tells Answer f → ⊥) → ((w : SerialWord) → Tells (SerialRequest w) f → ⊥) → framed at storing f m ≡ turn m quiet
 
 -- ---- a frame heard in a session
 
-abbrev pub known : Named → Bool
-known Unknown = false
-known (Known s) = true
-
--- a code in a frame of this length
-abbrev pub coded : ℕ → Frame → Bool
-coded length f = eqb (f .length) length && known (settingOf (byte f 0))
-
 pub record SessionReplies (m : Monitor) (s : Session) (at : Stamp) (storing : Bool) (f : Frame) : Type 0 where
-  pub read : (k : Setting) → f .length ≡ 1 → byte f 0 ≡ code k → framed at storing f m ≡ moves m (sessionAt at (s .draft)) (code k ∷ bytesOf Big 4 (valueOf (s .draft) k))
-  pub write : (k : Setting) → f .length ≡ 5 → byte f 0 ≡ code k → legal (m .rating) k (numberAt (f .bytes) 1 4) ≡ true → framed at storing f m ≡ moves m (sessionAt at (withValue (s .draft) k (numberAt (f .bytes) 1 4))) ACK
-  pub illegal-write : (k : Setting) → f .length ≡ 5 → byte f 0 ≡ code k → legal (m .rating) k (numberAt (f .bytes) 1 4) ≡ false → framed at storing f m ≡ moves m (sessionAt at (s .draft)) NAK
-  pub commit : isCommit f ≡ true → storing ≡ true → framed at storing f m ≡ turn (started at (s .draft) m) (says (m .stored .transmit) ACK)
-  pub failed-commit : isCommit f ≡ true → storing ≡ false → framed at storing f m ≡ turn (started at (m .stored) m) (says (m .stored .transmit) NAK)
-  pub all-else : isCommit f ≡ false → coded 1 f ≡ false → coded 5 f ≡ false → framed at storing f m ≡ moves m (sessionAt at (s .draft)) NAK
+  pub read : (k : Setting) → Tells (Read k) f → framed at storing f m ≡ moves m (sessionAt at (s .draft)) (byte f 0 ∷ bytesOf Big 4 (valueOf (s .draft) k))
+  pub write : (k : Setting) (v : ℕ) → Tells (Write k v) f → Legal (m .rating) k v → framed at storing f m ≡ moves m (sessionAt at (withValue (s .draft) k v)) ACK
+  pub illegal-write : (k : Setting) (v : ℕ) → Tells (Write k v) f → (Legal (m .rating) k v → ⊥) → framed at storing f m ≡ moves m (sessionAt at (s .draft)) NAK
+  pub commit : Tells Commit f → storing ≡ true → framed at storing f m ≡ turn (started at (s .draft) m) (says (m .stored .transmit) ACK)
+  pub failed-commit : Tells Commit f → storing ≡ false → framed at storing f m ≡ turn (started at (m .stored) m) (says (m .stored .transmit) NAK)
+  pub all-else : (Tells Commit f → ⊥) → ((k : Setting) → Tells (Read k) f → ⊥) → ((k : Setting) (v : ℕ) → Tells (Write k v) f → ⊥) → framed at storing f m ≡ moves m (sessionAt at (s .draft)) NAK

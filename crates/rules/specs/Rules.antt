@@ -6,11 +6,12 @@ use mathlib.Core.List.{List, [], _∷_}
 use Rattle.codec_pages.specs.declared.frame.Frame.{Frame}
 use Rattle.time.specs.declared.Stamp.{Stamp}
 use Rattle.time.specs.declared.Ticks.{Ticks}
-use Rattle.maintenance.specs.declared.setting.Setting.{Setting}
-use Rattle.maintenance.specs.declared.setting.Settings.{Settings}
-use Rattle.maintenance.specs.declared.message.Message.{Message}
-use Rattle.maintenance.specs.declared.message.Message.the-variants.{Other, Unlock, Commit, Answer, SerialRequest, Read, Write}
-use Rattle.maintenance.specs.declared.message.Reply.{Reply}
+use Rattle.maintenance_pages.specs.declared.setting.Setting.{Setting}
+use Rattle.maintenance_pages.specs.declared.setting.Settings.{Settings}
+use Rattle.maintenance_pages.specs.declared.message.SerialWord.{SerialWord}
+use Rattle.maintenance_pages.specs.declared.message.Message.{Message}
+use Rattle.maintenance_pages.specs.declared.message.Message.the-variants.{Other, Unlock, Commit, Answer, SerialRequest, Read, Write}
+use Rattle.maintenance_pages.specs.declared.message.Reply.{Reply}
 use Rattle.rules.specs.declared.unit.Pending.{Pending}
 use Rattle.rules.specs.declared.unit.Pending.the-variants.{Nothing, Since}
 use Rattle.rules.specs.declared.unit.Phase.{Phase}
@@ -19,8 +20,8 @@ use Rattle.rules.specs.declared.unit.Monitor.{Monitor}
 use Rattle.rules.specs.declared.unit.Turn.{Turn}
 use Rattle.time.specs.Times.{later, pastLimit, ticksBetween}
 use Rattle.rules.specs.Events.{Event, frameEvent, resetEvent, PowerOn}
-use Rattle.maintenance.specs.Settings.{legal, valueOf, withValue}
-use Rattle.maintenance.specs.Messages.{message, heardOn, isRight, quiet, ack, nak, challenged, shown, serialReport}
+use Rattle.maintenance_pages.specs.Settings.{legal, valueOf, withValue}
+use Rattle.maintenance_pages.specs.Messages.{message, heardOn, isRight, quiet, ack, nak, challenged, shown, serialReport}
 
 abbrev pub turn : Monitor → Reply → Turn
 turn m reply = record { monitor = m; reply = reply }
@@ -31,6 +32,23 @@ inPhase phase m = record { serial = m .serial; rating = m .rating; stored = m .s
 -- "Every reply is on the transmit identifier stored before the event."
 abbrev pub transmitId : Monitor → ℕ
 transmitId m = m .stored .transmit
+
+-- ---- the limits of time
+
+-- "more than 2,000 ms after the last heard message", and "that message's stamp plus 2,000"
+abbrev pub silent : Stamp → Stamp → Bool
+silent heard at = pastLimit heard 2000 at
+
+abbrev pub restart : Stamp → Stamp
+restart heard = later heard 2000
+
+-- later than "at most 10,000 ms after the last start"
+abbrev pub lateUnlock : Stamp → Stamp → Bool
+lateUnlock start at = pastLimit start 10000 at
+
+-- later than "at most 2,000 ms after the challenge"
+abbrev pub lateAnswer : Stamp → Stamp → Bool
+lateAnswer since at = pastLimit since 2000 at
 
 -- ---- starts
 
@@ -48,7 +66,7 @@ started at stored m = startedWith (m .serial) (m .rating) stored at
 -- at that message's stamp plus 2,000, draft dropped"
 abbrev pub wokenBy : Phase → Stamp → Monitor → Monitor
 wokenBy (Outside pending) at m = m
-wokenBy (InSession s) at m = cond (pastLimit (s .heard) 2000 at) (started (later (s .heard) 2000) (m .stored) m) m
+wokenBy (InSession s) at m = cond (silent (s .heard) at) (started (restart (s .heard)) (m .stored) m) m
 
 abbrev pub woken : Stamp → Monitor → Monitor
 woken at m = wokenBy (m .phase) at m
@@ -76,7 +94,7 @@ goesOn at draft reply m = turn (inPhase (sessionAt at draft) m) reply
 -- nothing pending."
 abbrev pub unlocked : Stamp → Monitor → Turn
 unlocked at m =
-    cond (pastLimit (m .start) 10000 at) (givenUp m)
+    cond (lateUnlock (m .start) at) (givenUp m)
     (turn (inPhase (Outside (Since at)) m) (challenged (transmitId m) (m .serial)))
 
 -- "Nothing pending: no reply. Right and at most 2,000 ms after the challenge: ACK, session open, draft equal to stored. Wrong or
@@ -84,19 +102,19 @@ unlocked at m =
 abbrev pub answered : Pending → Stamp → Frame → Monitor → Turn
 answered Nothing at f m = ignored m
 answered (Since since) at f m =
-    cond (isRight (m .serial) f && not (pastLimit since 2000 at))
+    cond (isRight (m .serial) f && not (lateAnswer since at))
     (goesOn at (m .stored) (ack (transmitId m)) m)
     (givenUp m)
 
 -- "Outside a session a request 08 to 0B of length 1 or 3 gets its serial word"
-abbrev pub serialAsked : ℕ → Monitor → Turn
-serialAsked mux m = turn m (serialReport (transmitId m) (m .serial) mux)
+abbrev pub serialAsked : SerialWord → Monitor → Turn
+serialAsked w m = turn m (serialReport (transmitId m) (m .serial) w)
 
 -- "All else, F0 included, gets no reply. None of these requests, answered or not, touches a pending challenge"
 abbrev pub outside : Message → Pending → Stamp → Frame → Monitor → Turn
 outside Unlock pending at f m = unlocked at m
 outside Answer pending at f m = answered pending at f m
-outside (SerialRequest mux) pending at f m = serialAsked mux m
+outside (SerialRequest w) pending at f m = serialAsked w m
 outside (Read s) pending at f m = ignored m
 outside (Write s v) pending at f m = ignored m
 outside Commit pending at f m = ignored m
@@ -130,7 +148,7 @@ inside (Write s v) draft at storing m = written s v at draft m
 inside Commit draft at storing m = committed storing at draft m
 inside Unlock draft at storing m = refused at draft m
 inside Answer draft at storing m = refused at draft m
-inside (SerialRequest mux) draft at storing m = refused at draft m
+inside (SerialRequest w) draft at storing m = refused at draft m
 inside Other draft at storing m = refused at draft m
 
 -- ---- events

@@ -1,6 +1,6 @@
 // What a monitor holds, and what an event leaves.
-use maintenance::message::Reply;
-use maintenance::setting::Settings;
+use maintenance_pages::message::Reply;
+use maintenance_pages::setting::Settings;
 use time::Stamp;
 
 // A challenge that waits for its answer, since its stamp.

@@ -15,10 +15,10 @@ use Rattle.refusal.specs.declared.Refusal.the-variants.{WrongSheet, ShortBuffer
 use Rattle.refusal.specs.Refusals.{numberOf}
 use Rattle.refusal.specs.Conditions.{_when_, Told, refusal, good}
 use Rattle.refusal.proofs.Conditions.{pick, given-exactly}
-use Rattle.maintenance.specs.declared.setting.Setting.{Setting}
-use Rattle.maintenance.specs.declared.setting.Setting.the-variants.{ReceiveId, TransmitId, Speed, Voltage, WarningLevel, FaultLevel}
-use Rattle.maintenance.specs.declared.setting.Settings.{Settings}
-use Rattle.maintenance.specs.Settings.{accepted}
+use Rattle.maintenance_pages.specs.declared.setting.Setting.{Setting}
+use Rattle.maintenance_pages.specs.declared.setting.Setting.the-variants.{ReceiveId, TransmitId, Speed, Voltage, WarningLevel, FaultLevel}
+use Rattle.maintenance_pages.specs.declared.setting.Settings.{Settings}
+use Rattle.maintenance_pages.specs.Settings.{accepted}
 use Rattle.text.specs.declared.written.Written.{Written}
 use Rattle.text.specs.declared.written.Written.the-variants.{Text, Refused as NotWritten}
 use Rattle.text.specs.Figures.{hexadecimal, decimal, decimalUpTo}
@@ -88,9 +88,9 @@ sign-refused s r x i (inr e) = no-sheet s r x (λ k y. none-there 46 dot-lacks s
 
 -- ---- writing
 
-told-by : (b : Bool) (k : Settings) (held : List ℕ) (r : Written) (after : List ℕ) → WrittenBy b k held r after → toldText r (sheetText k) ≡ pick ((11 when not b) ∷ (12 when isShort (sheetText k) (length held)) ∷ []) (sheetText k)
-told-by true k held r after x = ap (λ (y : Written). toldText y (sheetText k)) (x .answered) ∙ fitted-told (sheetText k) (length held)
-told-by false k held r after x = ap (λ (y : Written). toldText y (sheetText k)) (x .answered)
+told-by : (b : Bool) (k : Settings) (held : List ℕ) (r : Written) (after : List ℕ) → WrittenBy b k held r after → toldText r after ≡ pick ((11 when not b) ∷ (12 when isShort (sheetText k) (length held)) ∷ []) (sheetText k)
+told-by true k held r after x = fitted-told (sheetText k) held r after x
+told-by false k held r after x = ap (λ (y : Written). toldText y after) (x .answered)
 
 same-by : (b : Bool) (k : Settings) (held after : List ℕ) (why : Refusal) → WrittenBy b k held (NotWritten why) after → after ≡ held
 same-by true k held after why x = refused-same (sheetText k) held after why x
@@ -184,7 +184,7 @@ promise =
       apart = sheets-apart;
       comma-or-dot = sign-refused;
       writes = λ k held r after x. record {
-        exactly = given-exactly (toldText r (sheetText k)) (writerConditions k (length held)) (sheetText k) (told-by (isLegal k) k held r after x);
+        exactly = given-exactly (toldText r after) (writerConditions k (length held)) (sheetText k) (told-by (isLegal k) k held r after x);
         same = λ why q. same-by (isLegal k) k held after why (subst (λ (y : Written). SheetWritten k held y after) q x);
         text = λ n q. stands k held after n (subst (λ (y : Written). SheetWritten k held y after) q x);
       };

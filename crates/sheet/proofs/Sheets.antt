@@ -7,8 +7,8 @@ use mathlib.Core.List.{List, [], _∷_, _++_, append-assoc, append-nil}
 use lib.ListN.{length, take, drop, length-append, drop-of-length-le}
 use borrow.Author.Tests.{le-ltb, lt-ltb}
 use Rattle.refusal.specs.declared.Refusal.the-variants.{WrongSheet, ShortBuffer}
-use Rattle.maintenance.specs.declared.setting.Setting.the-variants.{ReceiveId, TransmitId, Speed, Voltage, WarningLevel, FaultLevel}
-use Rattle.maintenance.specs.declared.setting.Settings.{Settings}
+use Rattle.maintenance_pages.specs.declared.setting.Setting.the-variants.{ReceiveId, TransmitId, Speed, Voltage, WarningLevel, FaultLevel}
+use Rattle.maintenance_pages.specs.declared.setting.Settings.{Settings}
 use Rattle.text.specs.declared.written.Written.the-variants.{Text, Refused}
 use Rattle.text.specs.Put.{Put}
 use Rattle.text.proofs.Put.{put-as}

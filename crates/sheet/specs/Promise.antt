@@ -8,8 +8,8 @@ use lib.ListN.{length, getD, take, drop}
 use Rattle.refusal.specs.declared.Refusal.{Refusal}
 use Rattle.refusal.specs.Refusals.{numberOf}
 use Rattle.refusal.specs.Conditions.{Condition, _when_, Told, refusal, good, GivenExactly}
-use Rattle.maintenance.specs.declared.setting.Settings.{Settings}
-use Rattle.maintenance.specs.Settings.{accepted}
+use Rattle.maintenance_pages.specs.declared.setting.Settings.{Settings}
+use Rattle.maintenance_pages.specs.Settings.{accepted}
 use Rattle.text.specs.declared.written.Written.{Written}
 use Rattle.text.specs.declared.written.Written.the-variants.{Text, Refused as NotWritten}
 use Rattle.text.specs.Written.{isShort, toldText}
@@ -30,7 +30,7 @@ writerConditions k room = (11 when not (isLegal k)) ∷ (12 when isShort (sheetT
 
 -- what holds of every answer to settings and a buffer
 pub record Writes (k : Settings) (held : List ℕ) (r : Written) (after : List ℕ) : Type 0 where
-  pub exactly : GivenExactly (toldText r (sheetText k)) (writerConditions k (length held)) (sheetText k)
+  pub exactly : GivenExactly (toldText r after) (writerConditions k (length held)) (sheetText k)
   -- a refusal leaves the buffer with the contents it came with
   pub same : (why : Refusal) → r ≡ NotWritten why → after ≡ held
   -- a text is told by its length, stands at the buffer's start, and "bytes after the text are unchanged"

@@ -2,8 +2,8 @@
 ghost use mathlib.Core.Path.{_≡_};
 ghost use mathlib.Core.List.{[], _∷_};
 ghost use Rattle.sheet.specs.Sheet.{leading, Judges, Reads};
-use maintenance::setting::Setting;
-use maintenance::setting::Settings;
+use maintenance_pages::setting::Setting;
+use maintenance_pages::setting::Settings;
 use refusal::Refusal;
 use sheet_line::reading::read_line;
 

@@ -2,8 +2,8 @@
 ghost use mathlib.Core.Path.{_≡_};
 ghost use Rattle.text.specs.Put.{Put};
 ghost use Rattle.sheet.specs.Sheet.{isLegal, sheetText, SheetWritten};
-use maintenance::setting::Setting;
-use maintenance::setting::Settings;
+use maintenance_pages::setting::Setting;
+use maintenance_pages::setting::Settings;
 use refusal::Refusal;
 use sheet_line::line::line;
 use sheet_line::line::may_hold;

@@ -8,7 +8,7 @@ use Rattle.text.specs.Letters.{letters}
 use Rattle.text.specs.declared.written.Written.{Written}
 use Rattle.text.specs.declared.written.Written.the-variants.{Text, Refused as NotWritten}
 use Rattle.codec_pages.specs.Table.{numberAt}
-use Rattle.maintenance.specs.declared.setting.Settings.{Settings}
+use Rattle.maintenance_pages.specs.declared.setting.Settings.{Settings}
 use Rattle.sheet.specs.declared.reading.Judged.{Judged}
 use Rattle.sheet.specs.declared.reading.Judged.the-variants.{Sheet, Wrong}
 use Rattle.sheet.specs.declared.reading.SheetRead.{SheetRead}

@@ -7,7 +7,7 @@ use door::turn::Turn;
 use door::turn::begin;
 use door::turn::go_on;
 use door::turn::next_if;
-use maintenance::setting::Settings;
+use maintenance_pages::setting::Settings;
 use refusal::Refusal;
 use sheet::reading::Judged;
 use sheet::reading::SheetRead;

@@ -5,19 +5,22 @@ use native.Mathlib.Omega.{arith}
 use mathlib.Core.Path.{_≡_, refl, sym, ap, subst, _∙_}
 use mathlib.Core.Bool.{Bool, true, false, cond, _||_}
 use mathlib.Core.List.{List, [], _∷_, _++_, append-assoc}
+use mathlib.Core.Logic.{_↔_, inl, inr}
 use lib.Dec.{eqb, leb, lit≤, lit<}
 use lib.ListN.{length, getD, drop, drop-of-length-le}
 use lib.Seq.{drop-cons}
-use borrow.Author.Tests.{ne-eqb, lt-leb, leb-true, eqb-true}
-use Rattle.words.proofs.Tests.{decided, by-test, and-right}
-use Rattle.maintenance.specs.declared.setting.Setting.{Setting}
-use Rattle.maintenance.specs.declared.setting.Setting.the-variants.{ReceiveId, TransmitId, Speed, Voltage, WarningLevel, FaultLevel}
-use Rattle.maintenance.specs.Settings.{speedNumber}
+use borrow.Author.Tests.{ne-eqb, lt-leb}
+use Rattle.words.proofs.Tests.{at-most, equal, both, either}
+use Rattle.maintenance_pages.specs.declared.setting.Setting.{Setting}
+use Rattle.maintenance_pages.specs.declared.setting.Setting.the-variants.{ReceiveId, TransmitId, Speed, Voltage, WarningLevel, FaultLevel}
+use Rattle.maintenance_pages.specs.Settings.{speedNumber}
+use Rattle.maintenance_pages.proofs.Promise.{promise as maintenance}
 use Rattle.text.specs.Figures.{hexadecimal, decimal}
 use Rattle.text.specs.Promise.{figureValue, numberFrom}
 use Rattle.text.proofs.Figures.{lacks, lacks-at, hexadecimal-lacks, decimal-lacks}
 use Rattle.text.proofs.Promise.{promise as text}
 use Rattle.sheet_line.specs.Lines.{lineText, mayHold}
+use Rattle.sheet_line.specs.Promise.{MayHold}
 use Rattle.sheet_line.specs.Number.{isHexadecimal, base, widthOf, valueFor, Counts}
 
 -- ---- figure by figure
@@ -83,13 +86,22 @@ shown Voltage v = v
 shown WarningLevel v = v
 shown FaultLevel v = v
 
-shown-small : (setting : Setting) (v : ℕ) → mayHold setting v ≡ true → shown setting v < 2147483648
-shown-small ReceiveId v l = let h = leb-true v 0x1FFFFFFF l in omega (arith, h)
-shown-small TransmitId v l = let h = leb-true v 0x1FFFFFFF l in omega (arith, h)
-shown-small Speed v l = by-test (eqb v 0x00CA0250) (λ (b : Bool). cond b 250 500 < 2147483648) (lit< tt) (lit< tt)
-shown-small Voltage v l = let h = leb-true v 65534 l in omega (arith, h)
-shown-small WarningLevel v l = let h = leb-true v 2147483647 (and-right (leb 1 v) _ l) in omega (arith, h)
-shown-small FaultLevel v l = let h = leb-true v 2147483647 (and-right (leb 1 v) _ l) in omega (arith, h)
+-- what a line may hold, in plain numbers
+pub may-hold : (setting : Setting) (v : ℕ) → mayHold setting v ≡ true ↔ MayHold setting v
+may-hold ReceiveId v = at-most v _
+may-hold TransmitId v = at-most v _
+may-hold Speed v = either _ _ (equal v _) (equal v _)
+may-hold Voltage v = at-most v _
+may-hold WarningLevel v = both _ _ (at-most _ v) (at-most v _)
+may-hold FaultLevel v = both _ _ (at-most _ v) (at-most v _)
+
+shown-small : (setting : Setting) (v : ℕ) → MayHold setting v → shown setting v < 2147483648
+shown-small ReceiveId v h = omega (arith, h)
+shown-small TransmitId v h = omega (arith, h)
+shown-small Speed v h = let few = maintenance .speed-figures v in omega (arith, few)
+shown-small Voltage v h = omega (arith, h)
+shown-small WarningLevel v h = let most = h .1 in omega (arith, most)
+shown-small FaultLevel v h = let most = h .1 in omega (arith, most)
 
 -- what is counted from the figures of a number and a line feed is the number
 figures-counted : (b : ℕ) (figs rest : List ℕ) (m n : ℕ) → lacks 10 figs ≡ true → numberFrom b 0 figs ≡ m → m < 2147483648 → Counts b (figs ++ (10 ∷ []) ++ rest) n → n ≡ m
@@ -113,16 +125,14 @@ line-counted Voltage v n rest small x = decimal-counted v n rest small x
 line-counted WarningLevel v n rest small x = decimal-counted v n rest small x
 line-counted FaultLevel v n rest small x = decimal-counted v n rest small x
 
-speed-back : (v : ℕ) → (eqb v 0x00CA0250 || eqb v 0x00CA0500) ≡ true → cond (eqb (speedNumber v) 250) 0x00CA0250 0x00CA0500 ≡ v
-speed-back v l =
-    decided (eqb v 0x00CA0250)
-    (λ t. ap (λ (b : Bool). cond (eqb (cond b 250 500) 250) 0x00CA0250 0x00CA0500) t ∙ sym (eqb-true v 0x00CA0250 t))
-    (λ t. ap (λ (b : Bool). cond (eqb (cond b 250 500) 250) 0x00CA0250 0x00CA0500) t ∙ sym (eqb-true v 0x00CA0500 (sym (ap (λ (b : Bool). b || eqb v 0x00CA0500) t) ∙ l)))
+speed-back : (v : ℕ) → MayHold Speed v → valueFor Speed (speedNumber v) ≡ v
+speed-back v (inl e) = rw e refl
+speed-back v (inr e) = rw e refl
 
 value-back : (setting : Setting) (v : ℕ) → mayHold setting v ≡ true → valueFor setting (shown setting v) ≡ v
 value-back ReceiveId v l = refl
 value-back TransmitId v l = refl
-value-back Speed v l = speed-back v l
+value-back Speed v l = speed-back v (may-hold Speed v .0 l)
 value-back Voltage v l = refl
 value-back WarningLevel v l = refl
 value-back FaultLevel v l = refl
@@ -130,6 +140,6 @@ value-back FaultLevel v l = refl
 -- the value is found, whatever follows the line
 pub value-found : (setting : Setting) (v n : ℕ) (s rest : List ℕ) → mayHold setting v ≡ true → Counts (base (isHexadecimal setting)) (drop (widthOf setting) s) n → s ≡ lineText setting v ++ rest → (n < 2147483648) × (valueFor setting n ≡ v)
 value-found setting v n s rest l x e =
-    let small = shown-small setting v l in
+    let small = shown-small setting v (may-hold setting v .0 l) in
     let same = line-counted setting v n rest small (subst (λ (t : List ℕ). Counts (base (isHexadecimal setting)) (drop (widthOf setting) t) n) e x) in
     (subst (λ (k : ℕ). k < 2147483648) (sym same) small, ap (valueFor setting) same ∙ value-back setting v l)

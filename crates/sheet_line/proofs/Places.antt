@@ -7,9 +7,9 @@ use mathlib.Core.List.{List, [], _∷_, _++_}
 use lib.ListN.{length, take, drop, length-append, length-drop, take-append-drop}
 use lib.Seq.{drop-at, take-append-seam, drop-drop}
 use Rattle.words.proofs.Tests.{false-true, and-left, and-right, and-true}
-use Rattle.maintenance.specs.declared.setting.Setting.{Setting}
-use Rattle.maintenance.specs.declared.setting.Setting.the-variants.{ReceiveId, TransmitId, Speed, Voltage, WarningLevel, FaultLevel}
-use Rattle.maintenance.specs.Settings.{speedNumber}
+use Rattle.maintenance_pages.specs.declared.setting.Setting.{Setting}
+use Rattle.maintenance_pages.specs.declared.setting.Setting.the-variants.{ReceiveId, TransmitId, Speed, Voltage, WarningLevel, FaultLevel}
+use Rattle.maintenance_pages.specs.Settings.{speedNumber}
 use Rattle.text.specs.Figures.{hexadecimal, decimal}
 use Rattle.text.specs.Put.{Put}
 use Rattle.text.proofs.Figures.{hexadecimal-length, decimal-length}

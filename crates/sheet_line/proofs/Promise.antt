@@ -7,19 +7,18 @@ use mathlib.Core.List.{List, [], _∷_, _++_, append-cancel-left}
 use mathlib.Core.Logic.{_⊎_, inl, inr}
 use lib.Dec.{lit≤, lit<}
 use lib.ListN.{length, getD, drop}
-use borrow.Author.Tests.{leb-true}
 use Rattle.words.proofs.Tests.{decided, false-true, and-left, and-right}
-use Rattle.maintenance.specs.declared.setting.Setting.{Setting}
-use Rattle.maintenance.specs.declared.setting.Setting.the-variants.{ReceiveId, TransmitId, Speed, Voltage, WarningLevel, FaultLevel}
-use Rattle.maintenance.specs.Settings.{speedNumber}
-use Rattle.maintenance.proofs.Settings.{speed-below}
+use Rattle.maintenance_pages.specs.declared.setting.Setting.{Setting}
+use Rattle.maintenance_pages.specs.declared.setting.Setting.the-variants.{ReceiveId, TransmitId, Speed, Voltage, WarningLevel, FaultLevel}
+use Rattle.maintenance_pages.specs.Settings.{speedNumber}
+use Rattle.maintenance_pages.proofs.Promise.{promise as maintenance}
 use Rattle.text.proofs.Figures.{lacks, lacks-append, lacks-at, hexadecimal-lacks, decimal-lacks, hexadecimal-length, decimal-length, decimal-below}
 use Rattle.sheet_line.specs.declared.reading.Line.{Line}
 use Rattle.sheet_line.specs.Lines.{nameOf, figuresOf, lineText, mayHold, longestOf}
 use Rattle.sheet_line.specs.Number.{isHexadecimal, base, widthOf}
 use Rattle.sheet_line.specs.Reading.{ReadsLine}
 use Rattle.sheet_line.specs.Promise.{Promise}
-use Rattle.sheet_line.proofs.Numbers.{scan, scanned, value-found}
+use Rattle.sheet_line.proofs.Numbers.{scan, scanned, may-hold, value-found}
 use Rattle.sheet_line.proofs.Places.{line-length}
 
 -- ---- no two lines are alike
@@ -38,8 +37,8 @@ line-apart setting v w rest rest′ h h′ e =
 few-figures : (setting : Setting) (v : ℕ) → mayHold setting v ≡ true → widthOf setting + length (figuresOf setting v) + 1 ≤ longestOf setting
 few-figures ReceiveId v h = let l = hexadecimal-length 8 v in omega (arith, l)
 few-figures TransmitId v h = let l = hexadecimal-length 8 v in omega (arith, l)
-few-figures Speed v h = let l = decimal-below 2 (speedNumber v) (speed-below v) in omega (arith, l)
-few-figures Voltage v h = let b = leb-true v 65534 h in let l = decimal-below 4 v (let g : v < 100000 = omega (arith, b) in g) in omega (arith, l)
+few-figures Speed v h = let l = decimal-below 2 (speedNumber v) (maintenance .speed-figures v) in omega (arith, l)
+few-figures Voltage v h = let b = may-hold Voltage v .0 h in let l = decimal-below 4 v (let g : v < 100000 = omega (arith, b) in g) in omega (arith, l)
 few-figures WarningLevel v h = let l = decimal-length v in omega (arith, l)
 few-figures FaultLevel v h = let l = decimal-length v in omega (arith, l)
 
@@ -102,6 +101,7 @@ one-line setting s at r r′ x y =
 pub promise : Promise
 promise =
     record {
+      may-hold = may-hold;
       apart = line-apart;
       comma-or-dot = sign-nowhere;
       bound = line-most;

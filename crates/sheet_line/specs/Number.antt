@@ -5,8 +5,8 @@ use mathlib.Core.Bool.{Bool, true, false, cond}
 use mathlib.Core.List.{List, _∷_, _++_}
 use lib.Dec.{eqb}
 use lib.ListN.{getD}
-use Rattle.maintenance.specs.declared.setting.Setting.{Setting}
-use Rattle.maintenance.specs.declared.setting.Setting.the-variants.{ReceiveId, TransmitId, Speed, Voltage, WarningLevel, FaultLevel}
+use Rattle.maintenance_pages.specs.declared.setting.Setting.{Setting}
+use Rattle.maintenance_pages.specs.declared.setting.Setting.the-variants.{ReceiveId, TransmitId, Speed, Voltage, WarningLevel, FaultLevel}
 use Rattle.text.specs.Promise.{numberFrom}
 
 -- identifiers are hexadecimal, all else is decimal

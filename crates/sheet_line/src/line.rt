@@ -3,9 +3,9 @@ ghost use mathlib.Core.Path.{_≡_};
 ghost use mathlib.Core.List.{_∷_};
 ghost use Rattle.text.specs.Put.{Put};
 ghost use Rattle.sheet_line.specs.Lines.{nameOf, figuresOf, lineText, mayHold};
-use maintenance::setting::Setting;
 use maintenance::setting::is_legal;
 use maintenance::setting::speed_number;
+use maintenance_pages::setting::Setting;
 
 // Whether a sheet may hold the value.
 pub fn may_hold(setting: Setting, value: u32) -> bool

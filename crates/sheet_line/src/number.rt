@@ -7,7 +7,7 @@ ghost use lib.ListN.{drop};
 ghost use Rattle.text.specs.Promise.{figureValue};
 ghost use Rattle.sheet_line.specs.Lines.{mayHold, lineText};
 ghost use Rattle.sheet_line.specs.Number.{isHexadecimal, base, widthOf, speedFor, valueFor, Counts};
-use maintenance::setting::Setting;
+use maintenance_pages::setting::Setting;
 
 // The value of a figure; of another byte, any number.
 fn value_of(figure: u8) -> u64

@@ -8,7 +8,7 @@ ghost use Rattle.sheet_line.specs.Reading.{leastOf, ReadsLine};
 use crate::line::line;
 use crate::line::may_hold;
 use crate::number::value_in;
-use maintenance::setting::Setting;
+use maintenance_pages::setting::Setting;
 
 // A line as it was looked for: whether it is there, its value, and the place after it. Where it is not there, the value is the least that it may hold.
 pub struct Line {

@@ -3,7 +3,7 @@ use Prim.Native.Nat.{ℕ}
 use mathlib.Core.List.{List}
 use Rattle.door.specs.declared.LastWord.{LastWord}
 use Rattle.door.specs.declared.LastWord.the-variants.{Complete, Refused, Unread, Cut}
-use Rattle.maintenance.specs.declared.setting.Settings.{Settings}
+use Rattle.maintenance_pages.specs.declared.setting.Settings.{Settings}
 use Rattle.sheet.specs.Sheet.{IsSheet}
 
 pub record SomeSheet (s : List ℕ) : Type 0 where

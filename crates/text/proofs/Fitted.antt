@@ -8,10 +8,10 @@ use mathlib.Core.List.{List, [], _∷_, _++_}
 use lib.ListN.{length, take, drop}
 use lib.Seq.{sets, sets-eq, take-at}
 use borrow.Author.Tests.{ltb-false}
-use Rattle.words.proofs.Tests.{by-test, false-true}
+use Rattle.words.proofs.Tests.{decided, false-true}
 use Rattle.refusal.specs.declared.Refusal.{Refusal}
 use Rattle.refusal.specs.declared.Refusal.the-variants.{ShortBuffer}
-use Rattle.refusal.specs.Conditions.{_when_}
+use Rattle.refusal.specs.Conditions.{_when_, good}
 use Rattle.refusal.proofs.Conditions.{pick}
 use Rattle.text.specs.declared.written.Written.{Written}
 use Rattle.text.specs.declared.written.Written.the-variants.{Text, Refused}
@@ -37,9 +37,17 @@ text-written t held after r within fits p =
 
 -- ---- what an answer says
 
--- on paper: 12 where the buffer is short, otherwise the text
-pub fitted-told : (t : List ℕ) (room : ℕ) → toldText (fitted t room) t ≡ pick ((12 when isShort t room) ∷ []) t
-fitted-told t room = by-test (isShort t room) (λ (b : Bool). toldText (cond b (Refused ShortBuffer) (Text (length t))) t ≡ pick ((12 when b) ∷ []) t) refl refl
+stands : (t held : List ℕ) → length t ≤ length held → take (length t) (sets held 0 t) ≡ t
+stands t held h = ap (take (length t)) (sets-eq t held 0 (omega (arith, h))) ∙ take-at t (drop (0 + length t) held) (length t) refl
+
+-- on paper: 12 where the buffer is short, otherwise the text, and it stands in the buffer
+pub fitted-told : (t held : List ℕ) (r : Written) (after : List ℕ) → Fitted t held r after → toldText r after ≡ pick ((12 when isShort t (length held)) ∷ []) t
+fitted-told t held r after x =
+    ap (λ (y : Written). toldText y after) (x .answered)
+    ∙ ap (toldText (fitted t (length held))) (x .holds)
+    ∙ decided (isShort t (length held))
+    (λ s. rw s refl)
+    (λ s. rw s (ap good (stands t held (ltb-false (length held) (length t) s))))
 
 abbrev isText : Written → Bool
 isText (Text n) = true

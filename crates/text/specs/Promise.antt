@@ -1,11 +1,11 @@
 -- What the text crate promises. `proofs/Promise` proves it.
-use Prim.Native.Nat.{ℕ, _+_, _-_, _*_, _≤_, _<_, _^_}
+use Prim.Native.Nat.{ℕ, _+_, _-_, _*_, _/_, _%_, _≤_, _<_, _^_}
 use mathlib.Core.Path.{_≡_}
 use mathlib.Core.Bool.{cond}
 use mathlib.Core.List.{List, [], _∷_, _++_}
 use lib.Dec.{ltb}
 use lib.ListN.{length, getD, take, drop}
-use Rattle.text.specs.Figures.{hexadecimal, decimal}
+use Rattle.text.specs.Figures.{figure, hexadecimal, decimal}
 use Rattle.text.specs.Put.{Put}
 
 -- ---- a text in a buffer
@@ -38,6 +38,9 @@ pub record Promise : Type 0 where
   pub decimal-number : (n : ℕ) → n < 2 ^ 32 → numberFrom 10 0 (decimal n) ≡ n
   -- "eight capital hex digits"
   pub hexadecimal-width : (width n : ℕ) → length (hexadecimal width n) ≡ width
+  -- two and three of them, one by one
+  pub two-figures : (n : ℕ) → hexadecimal 2 n ≡ figure (n / 16 % 16) ∷ figure (n % 16) ∷ []
+  pub three-figures : (n : ℕ) → hexadecimal 3 n ≡ figure (n / 16 / 16 % 16) ∷ figure (n / 16 % 16) ∷ figure (n % 16) ∷ []
   -- "no leading zero"
   pub decimal-first : (n : ℕ) → 1 ≤ n → n < 2 ^ 32 → getD (decimal n) 0 0 ≡ 48 → ⊥
   -- at most ten figures, and no more than a power of ten allows

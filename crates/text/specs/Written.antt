@@ -4,7 +4,7 @@ use mathlib.Core.Path.{_≡_}
 use mathlib.Core.Bool.{Bool, cond}
 use mathlib.Core.List.{List, [], _∷_, _++_}
 use lib.Dec.{ltb}
-use lib.ListN.{length}
+use lib.ListN.{length, take}
 use lib.Seq.{sets}
 use Rattle.refusal.specs.declared.Refusal.{Refusal}
 use Rattle.refusal.specs.declared.Refusal.the-variants.{ShortBuffer}
@@ -35,10 +35,10 @@ pub record NotWritten (why : Refusal) (held : List ℕ) (answer : Written) (afte
   pub answered : answer ≡ Refused why
   pub holds : after ≡ held
 
--- on paper: the number of the refusal, or the text
+-- on paper, with what the buffer holds after: the number of the refusal, or the bytes that stand there, from the start and as many as are told
 abbrev pub toldText : Written → List ℕ → Told (List ℕ)
-toldText (Text n) text = good text
-toldText (Refused why) text = refusal (numberOf why)
+toldText (Text n) after = good (take n after)
+toldText (Refused why) after = refusal (numberOf why)
 
 -- "`refused`, a space, the number in decimal"
 abbrev pub refusedLine : Refusal → List ℕ

@@ -3,7 +3,7 @@ use Rattle.monitor_bench.proofs.powered.Statement.{statement}
 use Rattle.monitor_bench.proofs.powered.Tie as tie
 
 returns : tie.Need-returns
-returns c = rw (c .before .power-on .ensures .answered)
+returns c = rw (c .before .power-on .ensures)
 
 pub powered-spec : {M : Type 1} → statement M
 powered-spec = tie.close (tie.spec (λ c κs. tt) returns)

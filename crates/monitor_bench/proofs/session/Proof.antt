@@ -4,7 +4,7 @@ use Rattle.monitor_bench.proofs.session.Statement.{statement}
 use Rattle.monitor_bench.proofs.session.Tie as tie
 
 returns : tie.Need-returns
-returns c = rw (c .framed6 .ensures, c .before .before .framed5 .ensures, c .before .before .before .before .framed4 .ensures, c .before .before .before .before .before .before .framed3 .ensures, c .before .before .before .before .before .before .before .before .framed2 .ensures, c .before .before .before .before .before .before .before .before .before .before .framed .ensures, c .before .before .before .before .before .before .before .before .before .before .before .host .ensures, c .before .before .before .before .before .before .before .before .before .host2 .ensures, c .before .before .before .before .before .host3 .ensures, c .before .before .before .host4 .ensures, c .before .host5 .ensures, c .before .before .before .before .before .before .before .on .ensures, c .before .before .before .before .before .before .before .before .before .before .before .before .counted .ensures, c .before .before .before .before .before .before .before .before .before .before .before .before .before .reset-event .ensures .outcome)
+returns c = rw (c .framed6 .ensures, c .before .before .framed5 .ensures, c .before .before .before .before .framed4 .ensures, c .before .before .before .before .before .before .framed3 .ensures, c .before .before .before .before .before .before .before .before .framed2 .ensures, c .before .before .before .before .before .before .before .before .before .before .framed .ensures, c .before .before .before .before .before .before .before .before .before .before .before .host .ensures, c .before .before .before .before .before .before .before .before .before .host2 .ensures, c .before .before .before .before .before .host3 .ensures, c .before .before .before .host4 .ensures, c .before .host5 .ensures, c .before .before .before .before .before .before .before .on .ensures, c .before .before .before .before .before .before .before .before .before .before .before .before .counted .ensures, c .before .before .before .before .before .before .before .before .before .before .before .before .before .reset-event .ensures)
 
 pub session-spec : {M : Type 1} → statement M
 session-spec =

@@ -7,6 +7,7 @@ use mathlib.Core.Path.{_≡_, refl, ap, sym, _∙_}
 use lib.ListN.{length}
 use Rattle.text.proofs.Put.{kept-length}
 use Rattle.listing.specs.Output.{restAfter, restIn}
+use Rattle.listing.proofs.Promise.{promise as listing}
 use Rattle.replay.proofs.LastWord.{told}
 use Rattle.replay.proofs.write_parts.Statement.{statement}
 use Rattle.replay.proofs.write_parts.Tie as tie
@@ -18,8 +19,7 @@ abbrev μ-loop : tie.MeasureT-loop
 μ-loop s text₀ rest₀ i₀ text rest i = 18 - i
 
 loop-holds : tie.Need-loop-holds Inv-loop μ-loop
-unfolding restIn
-loop-holds c = (c .whole .ensures, refl)
+loop-holds c = (c .whole .ensures ∙ sym (listing .parts-first _), refl)
 
 same-length : tie.Need-same-length Inv-loop μ-loop
 same-length c = c .before .before .before .loop .inv .1
@@ -34,9 +34,8 @@ loop-less : tie.Need-loop-less Inv-loop μ-loop
 loop-less c = let t = c .before .before .before .before .before .before .before .before .before .loop-test .taken in omega (arith, t)
 
 loop-again : tie.Need-loop-again Inv-loop μ-loop
-unfolding restIn
 loop-again c = (
-  c .before .before .before .before .before .before .next-part .ensures .left ∙ ap (restAfter (c .before .before .before .before .before .before .before .before .before .before .before .before .before .before .args .s .now)) (c .before .before .before .before .before .before .before .before .before .before .loop .inv .0) ∙ ap (λ (k : ℕ). restIn k (c .before .before .before .before .before .before .before .before .before .before .before .before .before .before .args .s .now)) (sym (add-one (c .before .before .before .before .before .before .before .before .before .before .loop .i))),
+  c .before .before .before .before .before .before .next-part .ensures .left ∙ ap (restAfter (c .before .before .before .before .before .before .before .before .before .before .before .before .before .before .args .s .now)) (c .before .before .before .before .before .before .before .before .before .before .loop .inv .0) ∙ sym (listing .parts-next _ _) ∙ ap (λ (k : ℕ). restIn k (c .before .before .before .before .before .before .before .before .before .before .before .before .before .before .args .s .now)) (sym (add-one (c .before .before .before .before .before .before .before .before .before .before .loop .i))),
   kept-length (c .before .before .before .before .before .before .next-part .ensures .text) ∙ c .before .before .before .before .before .before .before .before .before .before .loop .inv .1,
 )
 

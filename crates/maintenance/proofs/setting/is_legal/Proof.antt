@@ -1,5 +1,5 @@
 -- `maintenance::setting::is_legal` meets its contract: the test at the place of the setting is chosen. Assumes nothing.
-use Rattle.maintenance.proofs.Settings.{legal-chosen}
+use Rattle.maintenance.proofs.Chosen.{legal-chosen}
 use Rattle.maintenance.proofs.setting.is_legal.Statement.{statement}
 use Rattle.maintenance.proofs.setting.is_legal.Tie as tie
 

@@ -1,5 +1,5 @@
 -- `maintenance::setting::value_of` meets its contract: the value at the place of the setting is chosen. Assumes nothing.
-use Rattle.maintenance.proofs.Settings.{value-chosen}
+use Rattle.maintenance.proofs.Chosen.{value-chosen}
 use Rattle.maintenance.proofs.setting.value_of.Statement.{statement}
 use Rattle.maintenance.proofs.setting.value_of.Tie as tie
 

@@ -1,5 +1,5 @@
 -- `maintenance::setting::with_value` meets its contract: the value is chosen at the place of the setting, and what was there at the others. Assumes nothing.
-use Rattle.maintenance.proofs.Settings.{all-chosen}
+use Rattle.maintenance.proofs.Chosen.{all-chosen}
 use Rattle.maintenance.proofs.setting.with_value.Statement.{statement}
 use Rattle.maintenance.proofs.setting.with_value.Tie as tie
 

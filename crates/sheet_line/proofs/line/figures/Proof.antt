@@ -1,7 +1,7 @@
 -- `sheet_line::line::figures` meets its contract: hexadecimal for the identifiers, decimal for the others. Assumes nothing.
 use borrow.Author.Needs.{needs}
 use mathlib.Core.Path.{sym, ap}
-use Rattle.maintenance.specs.declared.setting.Setting.{Setting}
+use Rattle.maintenance_pages.specs.declared.setting.Setting.{Setting}
 use Rattle.text.specs.Figures.{decimal}
 use Rattle.text.proofs.Put.{put-as}
 use Rattle.sheet_line.specs.Lines.{figuresOf}

@@ -3,11 +3,11 @@ use Prim.Native.Nat.{ℕ}
 use mathlib.Core.Bool.{Bool, cond, _&&_, _||_}
 use mathlib.Core.List.{List, [], _∷_}
 use lib.Dec.{eqb, leb, ltb}
-use Rattle.maintenance.specs.declared.setting.Setting.{Setting}
-use Rattle.maintenance.specs.declared.setting.Setting.the-variants.{ReceiveId, TransmitId, Speed, Voltage, WarningLevel, FaultLevel}
-use Rattle.maintenance.specs.declared.setting.Named.{Named}
-use Rattle.maintenance.specs.declared.setting.Named.the-variants.{Unknown, Known}
-use Rattle.maintenance.specs.declared.setting.Settings.{Settings}
+use Rattle.maintenance_pages.specs.declared.setting.Setting.{Setting}
+use Rattle.maintenance_pages.specs.declared.setting.Setting.the-variants.{ReceiveId, TransmitId, Speed, Voltage, WarningLevel, FaultLevel}
+use Rattle.maintenance_pages.specs.declared.setting.Named.{Named}
+use Rattle.maintenance_pages.specs.declared.setting.Named.the-variants.{Unknown, Known}
+use Rattle.maintenance_pages.specs.declared.setting.Settings.{Settings}
 
 -- "Codes: 15 receive id and 16 transmit id [..]; 17 speed [..]; 18 voltage [..]; 19 warning and 20 fault level"
 abbrev pub code : Setting → ℕ
@@ -28,15 +28,6 @@ settingIn (s ∷ ss) c = cond (eqb c (code s)) (Known s) (settingIn ss c)
 -- the setting whose code this is, if there is one
 abbrev pub settingOf : ℕ → Named
 settingOf c = settingIn inCodeOrder c
-
--- the place of a setting in that order, the first is 0: only private contracts speak of it
-abbrev pub orderOf : Setting → ℕ
-orderOf ReceiveId = 0
-orderOf TransmitId = 1
-orderOf Speed = 2
-orderOf Voltage = 3
-orderOf WarningLevel = 4
-orderOf FaultLevel = 5
 
 -- "0 to 0x1FFFFFFF"; "the two values"; "at least 1 and below the rating"; "1 to 2,147,483,647"
 abbrev pub legal : ℕ → Setting → ℕ → Bool

@@ -13,14 +13,16 @@ use Rattle.codec_pages.specs.declared.report.Report.the-variants.{Word}
 use Rattle.codec_pages.specs.Frames.{bodyOf, frameOf, blank}
 use Rattle.codec_pages.specs.Table.{part, numberAt}
 use Rattle.codec_pages.specs.Building.{buildReport}
-use Rattle.maintenance.specs.declared.setting.Setting.{Setting}
-use Rattle.maintenance.specs.declared.setting.Named.{Named}
-use Rattle.maintenance.specs.declared.setting.Settings.{Settings}
-use Rattle.maintenance.specs.declared.setting.Named.the-variants.{Unknown, Known}
-use Rattle.maintenance.specs.declared.message.Message.{Message}
-use Rattle.maintenance.specs.declared.message.Message.the-variants.{Other, Unlock, Commit, Answer, SerialRequest, Read, Write}
-use Rattle.maintenance.specs.declared.message.Reply.{Reply}
-use Rattle.maintenance.specs.Settings.{code, settingOf}
+use Rattle.maintenance_pages.specs.declared.setting.Setting.{Setting}
+use Rattle.maintenance_pages.specs.declared.setting.Named.{Named}
+use Rattle.maintenance_pages.specs.declared.setting.Settings.{Settings}
+use Rattle.maintenance_pages.specs.declared.setting.Named.the-variants.{Unknown, Known}
+use Rattle.maintenance_pages.specs.declared.message.SerialWord.{SerialWord}
+use Rattle.maintenance_pages.specs.declared.message.SerialWord.the-variants.{First, Second, Third, Last}
+use Rattle.maintenance_pages.specs.declared.message.Message.{Message}
+use Rattle.maintenance_pages.specs.declared.message.Message.the-variants.{Other, Unlock, Commit, Answer, SerialRequest, Read, Write}
+use Rattle.maintenance_pages.specs.declared.message.Reply.{Reply}
+use Rattle.maintenance_pages.specs.Settings.{code, settingOf}
 
 -- ---- what a frame says. Bytes past its length are no part of it
 
@@ -43,6 +45,10 @@ isAnswer f = eqb (f .length) 8 && eqb (byte f 0) 0x14
 abbrev pub asksSerial : Frame → Bool
 asksSerial f = (eqb (f .length) 1 || eqb (f .length) 3) && leb 0x08 (byte f 0) && leb (byte f 0) 0x0B
 
+-- "08 the last four serial bytes, 0B the first four"
+abbrev pub wordAsked : ℕ → SerialWord
+wordAsked mux = cond (eqb mux 0x08) Last (cond (eqb mux 0x09) Third (cond (eqb mux 0x0A) Second First))
+
 -- "Read, length 1, a code below"
 abbrev pub asRead : Named → Message
 asRead Unknown = Other
@@ -58,7 +64,7 @@ message f =
     cond (isUnlock f) Unlock
     (cond (isCommit f) Commit
     (cond (isAnswer f) Answer
-    (cond (asksSerial f) (SerialRequest (byte f 0))
+    (cond (asksSerial f) (SerialRequest (wordAsked (byte f 0)))
     (cond (eqb (f .length) 1) (asRead (settingOf (byte f 0)))
     (cond (eqb (f .length) 5) (asWrite (settingOf (byte f 0)) (numberAt (f .bytes) 1 4))
     Other)))))
@@ -122,12 +128,21 @@ abbrev pub shown : ℕ → Setting → ℕ → Reply
 shown transmit s v = says transmit (code s ∷ bytesOf Big 4 v)
 
 -- "08 the last four serial bytes, 0B the first four"
-abbrev pub serialPlace : ℕ → ℕ
-serialPlace mux = cond (eqb mux 0x08) 12 (cond (eqb mux 0x09) 8 (cond (eqb mux 0x0A) 4 0))
+abbrev pub serialMux : SerialWord → ℕ
+serialMux First = 0x0B
+serialMux Second = 0x0A
+serialMux Third = 0x09
+serialMux Last = 0x08
 
-abbrev pub serialWord : List ℕ → ℕ → ℕ
-serialWord serial mux = numberAt serial (serialPlace mux) 4
+abbrev pub serialPlace : SerialWord → ℕ
+serialPlace First = 0
+serialPlace Second = 4
+serialPlace Third = 8
+serialPlace Last = 12
+
+abbrev pub serialValue : List ℕ → SerialWord → ℕ
+serialValue serial w = numberAt serial (serialPlace w) 4
 
 -- "its serial word": a report of the SIM101 table
-abbrev pub serialReport : ℕ → List ℕ → ℕ → Reply
-serialReport transmit serial mux = sends (buildReport Sim101 transmit (Word mux (serialWord serial mux)) .frame)
+abbrev pub serialReport : ℕ → List ℕ → SerialWord → Reply
+serialReport transmit serial w = sends (buildReport Sim101 transmit (Word (serialMux w) (serialValue serial w)) .frame)

@@ -1,0 +1,26 @@
+-- Settings and messages keep their promise. Assumes nothing.
+use Rattle.maintenance_pages.specs.Promise.{Promise}
+use Rattle.maintenance_pages.proofs.Messages.{heard-means, right-means}
+use Rattle.maintenance_pages.proofs.Told.{coded-code, says}
+use Rattle.maintenance_pages.proofs.Past.{past-length}
+use Rattle.maintenance_pages.proofs.Settings.{same-code, values, legal-means, accepted-means, equal-accepted, negative, speed-below}
+use Rattle.maintenance_pages.proofs.SerialWords.{serial-built, serial-words}
+
+pub promise : Promise
+promise =
+    record {
+      messages = says;
+      heard = heard-means;
+      right = right-means;
+      past-length = past-length;
+      coded = coded-code;
+      codes = same-code;
+      values = values;
+      legal = legal-means;
+      accepted = accepted-means;
+      equal-identifiers = equal-accepted;
+      negative = negative;
+      serial-built = serial-built;
+      serial-words = serial-words;
+      speed-figures = speed-below;
+    }
