@@ -15,7 +15,7 @@ use Rattle.codec_pages.proofs.Promise.{promise as codec}
 use Rattle.maintenance_pages.specs.declared.message.SerialWord.{SerialWord}
 use Rattle.maintenance_pages.specs.declared.message.SerialWord.the-variants.{First, Second, Third, Last}
 use Rattle.maintenance_pages.specs.Messages.{sends, says, serialMux, serialPlace, serialValue}
-use Rattle.maintenance_pages.specs.Means.{wordBytes}
+use Rattle.maintenance_pages.specs.Means.{serialBytes}
 use Rattle.maintenance_pages.specs.Promise.{SerialBuilt, SerialWords}
 
 -- the multiplexers of the serial words are among those of one word
@@ -41,7 +41,7 @@ four-bytes bs place h = (
 )
 
 -- the multiplexer and the four bytes at its place
-word-bytes : (serial : List ℕ) (w : SerialWord) → (serialMux w ∷ part serial (serialPlace w) 4) ≡ wordBytes w serial
+word-bytes : (serial : List ℕ) (w : SerialWord) → (serialMux w ∷ part serial (serialPlace w) 4) ≡ serialBytes w serial
 word-bytes serial First = refl
 word-bytes serial Second = refl
 word-bytes serial Third = refl

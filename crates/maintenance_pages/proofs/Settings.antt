@@ -14,7 +14,7 @@ use Rattle.maintenance_pages.specs.declared.setting.Named.the-variants.{
 use Rattle.maintenance_pages.specs.declared.setting.Settings.{Settings}
 use Rattle.maintenance_pages.specs.Settings.{code, settingOf, legal, valueOf, withValue, speedNumber}
 use Rattle.maintenance_pages.specs.Means.{Legal}
-use Rattle.maintenance_pages.specs.Promise.{Values, LegalMeans, AcceptedMeans, EqualAccepted, NegativeRefused}
+use Rattle.maintenance_pages.specs.Promise.{EachSetting, LegalMeans, AcceptedMeans, EqualAccepted, NegativeRefused}
 
 -- ---- in plain words
 
@@ -94,7 +94,7 @@ value-by k c v FaultLevel = refl
 value-with : (k : Settings) (s x : Setting) (v : ℕ) → valueOf (withValue k s v) x ≡ cond (eqb (code s) (code x)) v (valueOf k x)
 value-with k s x v = ap (λ (n : Settings). valueOf n x) (by-code k s v) ∙ value-by k (code s) v x
 
-pub values : (k : Settings) → Values k
+pub values : (k : Settings) → EachSetting k
 values k =
     record {
       receive = refl;

@@ -39,11 +39,11 @@ AsksFor Second b = b ≡ 0x0A
 AsksFor First b = b ≡ 0x0B
 
 -- the five bytes of the reply
-abbrev pub wordBytes : SerialWord → List ℕ → List ℕ
-wordBytes Last serial = 0x08 ∷ part serial 12 4
-wordBytes Third serial = 0x09 ∷ part serial 8 4
-wordBytes Second serial = 0x0A ∷ part serial 4 4
-wordBytes First serial = 0x0B ∷ part serial 0 4
+abbrev pub serialBytes : SerialWord → List ℕ → List ℕ
+serialBytes Last serial = 0x08 ∷ part serial 12 4
+serialBytes Third serial = 0x09 ∷ part serial 8 4
+serialBytes Second serial = 0x0A ∷ part serial 4 4
+serialBytes First serial = 0x0B ∷ part serial 0 4
 
 -- A frame with the length and the bytes of such a message. Nothing tells "something else".
 abbrev pub Tells : Message → Frame → Type 0

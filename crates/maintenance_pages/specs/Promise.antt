@@ -17,7 +17,7 @@ use Rattle.maintenance_pages.specs.declared.message.Message.{Message}
 use Rattle.maintenance_pages.specs.declared.message.Message.the-variants.{Other, Unlock, Commit, Answer, SerialRequest, Read, Write}
 use Rattle.maintenance_pages.specs.Settings.{code, legal, accepted, valueOf, withValue, speedNumber}
 use Rattle.maintenance_pages.specs.Messages.{message, heardOn, challengeOf, answerTo, isRight, says, serialMux, serialValue, serialReport}
-use Rattle.maintenance_pages.specs.Means.{Coded, Tells, wordBytes, Legal, Acceptable}
+use Rattle.maintenance_pages.specs.Means.{Coded, Tells, serialBytes, Legal, Acceptable}
 
 -- ---- messages
 
@@ -56,7 +56,7 @@ abbrev pub OneCode : Type 0
 OneCode = (s x : Setting) → code s ≡ code x → s ≡ x
 
 -- the value of each setting has a name of its own; written to one setting, a value is there, and at every other setting is what was
-pub record Values (k : Settings) : Type 0 where
+pub record EachSetting (k : Settings) : Type 0 where
   pub receive : valueOf k ReceiveId ≡ k .receive
   pub transmit : valueOf k TransmitId ≡ k .transmit
   pub speed : valueOf k Speed ≡ k .speed
@@ -88,7 +88,7 @@ SerialBuilt = (transmit : ℕ) (serial : List ℕ) (w : SerialWord) → transmit
 
 -- "08 the last four serial bytes, 0B the first four": the serial bytes as they stand
 abbrev pub SerialWords : Type 0
-SerialWords = (transmit : ℕ) (serial : List ℕ) (w : SerialWord) → transmit ≤ 0x1FFFFFFF → Bytes serial → serialReport transmit serial w ≡ says transmit (wordBytes w serial)
+SerialWords = (transmit : ℕ) (serial : List ℕ) (w : SerialWord) → transmit ≤ 0x1FFFFFFF → Bytes serial → serialReport transmit serial w ≡ says transmit (serialBytes w serial)
 
 -- ---- the promise
 
@@ -99,7 +99,7 @@ pub record Promise : Type 0 where
   pub past-length : (f g : Frame) → Alike f g → PastLength f g
   pub coded : CodesMean
   pub codes : OneCode
-  pub values : (k : Settings) → Values k
+  pub values : (k : Settings) → EachSetting k
   pub legal : LegalMeans
   pub accepted : AcceptedMeans
   pub equal-identifiers : EqualAccepted

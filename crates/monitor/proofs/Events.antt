@@ -16,13 +16,13 @@ use Rattle.monitor.specs.declared.bench.UptimeReading.the-variants.{Read
 use Rattle.time.specs.Times.{earlier}
 use Rattle.maintenance_pages.specs.Settings.{accepted}
 use Rattle.maintenance_pages.specs.Messages.{quiet as noReply}
-use Rattle.rules.specs.Rules.{woken, uptimeOf, step}
+use Rattle.rules.specs.Rules.{woken, uptimeOf, step, unitAfter}
 use Rattle.rules.specs.Events.{Event, PowerOn, beyond, stampOf}
 use Rattle.monitor.specs.Bench.{early, refusedBy, acceptedAt, outcomeOf, poweredOn, uptimeAsked, benchAt, after}
 use Rattle.rules.specs.Given.{on, ticks, givenReply}
 use Rattle.monitor.specs.Told.{toldOutcome, toldPowerOn, toldUptime, eventConditions, powerOnConditions, uptimeConditions}
 use Rattle.monitor.specs.Promise.{Handles, PowersOn}
-use Rattle.rules.proofs.Rules.{fresh}
+use Rattle.rules.proofs.Promise.{promise as rules}
 
 -- ---- events, over the two tests
 
@@ -62,7 +62,7 @@ pub powers-on : (p : PowerOn) → PowersOn p
 powers-on p =
     record {
       exactly = given-exactly (toldPowerOn (poweredOn (p .at) (p .serial) (p .rating) (p .settings))) (powerOnConditions p) on (on-told (accepted (p .rating) (p .settings)) _ _);
-      fresh = λ a. rw (after, a) (fresh (p .serial) (p .rating) (p .settings) (p .at));
+      fresh = λ a. rw (after, a) (rules .starts (unitAfter p []) .fresh (p .at) (p .settings));
       last = λ a. rw (after, a) refl;
     }
 

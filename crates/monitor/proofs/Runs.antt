@@ -23,8 +23,7 @@ use Rattle.rules.specs.History.{storedAfter, replyTo}
 use Rattle.rules.specs.Promise.{OnIdentifier}
 use Rattle.rules.proofs.Promise.{promise as rules}
 use Rattle.rules.specs.Past.{AlikeEvents, AlikeHistories}
-use Rattle.monitor.specs.Promise.{Holds, PastLength}
-use Rattle.rules.proofs.Starts.{bound}
+use Rattle.monitor.specs.Promise.{Holds, SameBench}
 use Rattle.monitor.proofs.Reached.{bench-after, same}
 use Rattle.monitor.proofs.WorkedOut.{worked-out, runs-accepted, unit-there}
 
@@ -92,7 +91,7 @@ holds p a h =
       identifier = λ e. rw (stored, ap (λ (b : Bench). outcomeOf e b .reply) q) (answered-on p g r (sound .identifier) e);
       start = λ at l.
           let l′ : lastStamp p g .0 ≤ at .0 = subst (λ (s : Stamp). s .0 ≤ at .0) last l in
-          subst (λ (s : Stamp). s .0 ≤ at .0) (sym (ap (λ (b : Bench). woken at (b .monitor) .start) q ∙ worked-out p g r .start at l′)) (bound p g r at l′);
+          subst (λ (s : Stamp). s .0 ≤ at .0) (sym (ap (λ (b : Bench). woken at (b .monitor) .start) q ∙ worked-out p g r .start at l′)) (unit .started at l′);
     }
 
 -- ---- bytes past the length
@@ -111,7 +110,7 @@ after-same p (e ∷ h) (e′ ∷ h′) (a, b) =
 after-same p [] (e′ ∷ h′) a = absurd a
 after-same p (e ∷ h) [] a = absurd a
 
-pub past-length : (p : PowerOn) (h h′ : List Event) → AlikeHistories h h′ → PastLength p h h′
+pub past-length : (p : PowerOn) (h h′ : List Event) → AlikeHistories h h′ → SameBench p h h′
 past-length p h h′ a =
     record {
       bench = after-same p h h′ a;

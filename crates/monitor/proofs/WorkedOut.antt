@@ -8,7 +8,6 @@ use Rattle.rules.specs.Rules.{woken, unitAfter}
 use Rattle.rules.specs.Events.{Event, PowerOn, lastStamp, Run}
 use Rattle.rules.specs.Demand.{Demand, Same}
 use Rattle.rules.specs.Promise.{isOpen, stateOf}
-use Rattle.rules.proofs.OneReading.{meets-too}
 use Rattle.rules.proofs.Promise.{promise as rules}
 use Rattle.monitor.specs.declared.bench.Bench.{Bench}
 use Rattle.monitor.specs.declared.bench.Outcome.{Outcome}
@@ -53,4 +52,4 @@ bench-same p h r =
     }
 
 pub demand-3 : (p : PowerOn) → Demand p (stateOf (λ h. after p h .monitor))
-demand-3 p = meets-too p (stateOf (λ h. unitAfter p h)) (stateOf (λ h. after p h .monitor)) (rules .demand-3 p .unit) (bench-same p)
+demand-3 p = rules .demand-3 p .alike (stateOf (λ h. unitAfter p h)) (stateOf (λ h. after p h .monitor)) (rules .demand-3 p .unit) (bench-same p)

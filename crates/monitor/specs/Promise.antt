@@ -57,7 +57,7 @@ pub record Holds (p : PowerOn) (h : List Event) : Type 0 where
 -- ---- bytes past the length
 
 -- histories that differ only there leave the same bench, and what comes next, such events too, is answered alike: refusal, reply and all
-pub record PastLength (p : PowerOn) (h h′ : List Event) : Type 0 where
+pub record SameBench (p : PowerOn) (h h′ : List Event) : Type 0 where
   pub bench : after p h ≡ after p h′
   pub outcome : (e e′ : Event) → AlikeEvents e e′ → outcomeOf e (after p h) ≡ outcomeOf e′ (after p h′)
 
@@ -82,7 +82,7 @@ pub record Promise : Type 0 where
   pub power-on : (p : PowerOn) → PowersOn p
   pub uptime : (at : Stamp) (b : Bench) → GivenExactly (toldUptime (uptimeAsked at b)) (uptimeConditions at b) (ticks ((at .0 - woken at (b .monitor) .start .0) / 10))
   pub history : (p : PowerOn) → IsAccepted p → (h : List Event) → Holds p h
-  pub past-length : (p : PowerOn) (h h′ : List Event) → AlikeHistories h h′ → PastLength p h h′
+  pub past-length : (p : PowerOn) (h h′ : List Event) → AlikeHistories h h′ → SameBench p h h′
   pub runs : (p : PowerOn) → RunsAreAccepted p
   pub worked-out : (p : PowerOn) (h : List Event) → Run p h → WorkedOut p h
   -- in the demand's own words, of the monitor on the bench

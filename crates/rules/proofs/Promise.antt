@@ -11,6 +11,7 @@ use Rattle.rules.proofs.Rules.{unheard, starts}
 use Rattle.rules.proofs.Speed.{speed-silent}
 use Rattle.rules.proofs.Replies.{outside-replies, session-replies, meets-woken}
 use Rattle.rules.proofs.History.{unit-serial, unit-rating, unit-stored, unit-session, unit-start, unit-reply}
+use Rattle.rules.proofs.Starts.{bound}
 use Rattle.rules.proofs.Demand.{demand-back}
 use Rattle.rules.proofs.OneReading.{one-reading, meets-too}
 use Rattle.rules.proofs.Past.{same-event, same-history}
@@ -26,6 +27,7 @@ worked-out p h r =
       reply = unit-reply p h;
       session = unit-session p h r;
       start = unit-start p h r;
+      started = bound p h r;
       uptime = λ t l. ap (λ (s : Stamp). ticksBetween s t) (unit-start p h r t l);
     }
 
@@ -43,6 +45,7 @@ demand-3 p =
     record {
       unit = meets-too p (lookingBack p) (stateOf (λ h. unitAfter p h)) (demand-back p) (unit-same p);
       history = demand-back p;
+      alike = meets-too p;
       one = one-reading p;
     }
 

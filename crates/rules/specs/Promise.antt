@@ -76,12 +76,15 @@ pub record WorkedOut (p : PowerOn) (h : List Event) : Type 0 where
   pub reply : (e : Event) → Run p (e ∷ h) → step e (unitAfter p h) .reply ≡ replyTo p h e
   pub session : (t : Stamp) → lastStamp p h .0 ≤ t .0 → isOpen (woken t (unitAfter p h) .phase) ≡ inSession p h t
   pub start : (t : Stamp) → lastStamp p h .0 ≤ t .0 → woken t (unitAfter p h) .start ≡ lastStart p h t
+  pub started : (t : Stamp) → lastStamp p h .0 ≤ t .0 → lastStart p h t .0 ≤ t .0
   pub uptime : (t : Stamp) → lastStamp p h .0 ≤ t .0 → uptimeOf t (unitAfter p h) ≡ ticksBetween (lastStart p h t) t
 
--- the demand in its own words: of the unit, and of the reading that looks back. The words leave no choice.
+-- the demand in its own words: of the unit, and of the reading that looks back. The words leave no choice: two readings that meet them say the same, and
+-- what says the same as one that meets them meets them too.
 pub record Demand3 (p : PowerOn) : Type 0 where
   pub unit : Demand p (stateOf (λ h. unitAfter p h))
   pub history : Demand p (lookingBack p)
+  pub alike : (r r′ : Reading) → Demand p r → ((h : List Event) → Run p h → Same p r r′ h) → Demand p r′
   pub one : (r r′ : Reading) → Demand p r → Demand p r′ → (h : List Event) → Run p h → Same p r r′ h
 
 -- a reply is an extended frame on the identifier, of eight bytes at most

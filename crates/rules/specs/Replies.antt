@@ -13,7 +13,7 @@ use Rattle.maintenance_pages.specs.declared.message.SerialWord.{SerialWord}
 use Rattle.maintenance_pages.specs.declared.message.Message.the-variants.{Unlock, Commit, Answer, SerialRequest, Read, Write}
 use Rattle.maintenance_pages.specs.Settings.{valueOf, withValue}
 use Rattle.maintenance_pages.specs.Messages.{byte, answerTo, serialReport, quiet, says}
-use Rattle.maintenance_pages.specs.Means.{Tells, Legal, wordBytes}
+use Rattle.maintenance_pages.specs.Means.{Tells, Legal, serialBytes}
 use Rattle.time.specs.declared.Stamp.{Stamp}
 use Rattle.rules.specs.declared.unit.Pending.{Pending}
 use Rattle.rules.specs.declared.unit.Pending.the-variants.{Nothing, Since}
@@ -50,7 +50,7 @@ pub record OutsideReplies (m : Monitor) (pending : Pending) (at : Stamp) (storin
   pub no-challenge : Tells Answer f → pending ≡ Nothing → framed at storing f m ≡ turn m quiet
   -- whatever the monitor holds, the report that the codec builds; and its bytes, where the identifier and the serial number are such
   pub serial : (w : SerialWord) → Tells (SerialRequest w) f → framed at storing f m ≡ turn m (serialReport (m .stored .transmit) (m .serial) w)
-  pub serial-bytes : (w : SerialWord) → Tells (SerialRequest w) f → m .stored .transmit ≤ 0x1FFFFFFF → Bytes (m .serial) → framed at storing f m ≡ turn m (says (m .stored .transmit) (wordBytes w (m .serial)))
+  pub serial-bytes : (w : SerialWord) → Tells (SerialRequest w) f → m .stored .transmit ≤ 0x1FFFFFFF → Bytes (m .serial) → framed at storing f m ≡ turn m (says (m .stored .transmit) (serialBytes w (m .serial)))
   pub all-else : (Tells Unlock f → ⊥) → (Tells Answer f → ⊥) → ((w : SerialWord) → Tells (SerialRequest w) f → ⊥) → framed at storing f m ≡ turn m quiet
 
 -- ---- a frame heard in a session
