@@ -6,7 +6,7 @@ use mathlib.Core.Logic.{inl, inr}
 use lib.Dec.{eqb, lit<}
 use borrow.Author.Tests.{eq-eqb, ne-eqb}
 use native.Mathlib.Omega.{arith}
-use Rattle.words.proofs.Tests.{by-test, decided, at-most, below, equal, both, either}
+use Rattle.words.proofs.Tests.{by-test, at-most, below, equal, both, either, refuted}
 use Rattle.maintenance_pages.specs.declared.setting.Setting.{Setting}
 use Rattle.maintenance_pages.specs.declared.setting.Setting.the-variants.{ReceiveId, TransmitId, Speed, Voltage, WarningLevel, FaultLevel}
 use Rattle.maintenance_pages.specs.declared.setting.Named.{Named}
@@ -125,7 +125,7 @@ not-negative rating WarningLevel v r h l = let q = l .1 in omega arith
 not-negative rating FaultLevel v r h l = let q = l .1 in omega arith
 
 pub negative : NegativeRefused
-negative rating s v r h = decided (legal rating s v) (λ t. absurd (not-negative rating s v r h (legal-means rating s v .0 t))) (λ t. t)
+negative rating s v r h = refuted (legal rating s v) (legal-means rating s v) (not-negative rating s v r h)
 
 -- a speed is shown in three figures
 pub speed-below : (v : ℕ) → speedNumber v < 1000

@@ -73,12 +73,6 @@ text-told t held after n x =
       x .holds ∙ ap (λ (b : Bool). cond b held (sets held 0 t)) fits,
     )
 
--- a text that was told was put
-pub text-put : (t held after : List ℕ) (n : ℕ) → length t ≤ lastPlace → Fitted t held (Text n) after → Put held 0 t n after
-text-put t held after n within x =
-    let all = text-told t held after n x in
-    record { goes-on = all .1 ∙ sym (ap place (zero-add (length t)) ∙ place-within (length t) within); holds = all .2 }
-
 same-by : (t held after : List ℕ) (why : Refusal) (short : Bool) → isShort t (length held) ≡ short → Fitted t held (Refused why) after → after ≡ held
 same-by t held after why true q x = x .holds ∙ ap (λ (b : Bool). cond b held (sets held 0 t)) q
 same-by t held after why false q x = text-not-refused (length t) why (sym (x .answered ∙ ap (λ (b : Bool). cond b (Refused ShortBuffer) (Text (length t))) q))

@@ -4,7 +4,7 @@ use mathlib.Core.Path.{_≡_, refl, sym}
 use mathlib.Core.Bool.{Bool, true, false, not, _&&_, _||_}
 use mathlib.Core.Logic.{_↔_, _⊎_, inl, inr}
 use lib.Dec.{eqb, leb, ltb}
-use borrow.Author.Tests.{leb-true, le-leb, ltb-true, lt-ltb, ltb-false, le-ltb, eqb-true, eq-eqb}
+use borrow.Author.Tests.{leb-true, le-leb, ltb-true, lt-ltb, eqb-true, eq-eqb}
 use native.Mathlib.Omega.{arith}
 
 pub by-test : (b : Bool) (P : Bool → Type 0) → P true → P false → P b
@@ -49,9 +49,6 @@ at-most a b = (leb-true a b, le-leb a b)
 
 pub below : (a b : ℕ) → ltb a b ≡ true ↔ a < b
 below a b = (ltb-true a b, lt-ltb a b)
-
-pub not-below : (a b : ℕ) → ltb a b ≡ false ↔ b ≤ a
-not-below a b = (ltb-false a b, le-ltb a b)
 
 pub equal : (a b : ℕ) → eqb a b ≡ true ↔ a ≡ b
 equal a b = (eqb-true a b, eq-eqb a b)
