@@ -21,7 +21,7 @@ use Rattle.codec_pages.specs.declared.report.Report.the-variants.{Isolat
 use Rattle.codec_pages.specs.declared.request.Request.{Request}
 use Rattle.codec_pages.specs.declared.request.Request.the-variants.{ReadIsolationState, ReadResistances, ReadCapacitances, ReadVoltages, ReadBattery, ReadErrorFlags, ReadWord, ReadTemperature, SetWorkingVoltage}
 use Rattle.refusal.specs.declared.Refusal.the-variants.{OverLimits, NotListed, DoesNotFit}
-use Rattle.codec_pages.specs.Frames.{muxOf, bodyOf, frameOf, frameWith, notBuilt, blank}
+use Rattle.codec_pages.specs.Frames.{overIdentifier, muxOf, bodyOf, frameOf, frameWith, notBuilt, blank}
 use Rattle.codec_pages.specs.Table.{Field, entryOf, rowOf, isRefused, unsigned, estimatesOf, voltageAt, flagsOf}
 use Rattle.refusal.specs.Conditions.{_when_}
 use Rattle.refusal.proofs.Conditions.{pick, pick-exactly, first-not-none}
@@ -129,32 +129,32 @@ builds b one three six i bs e =
     }
 
 -- a report and a request are built by their tests, in order
-pub report-by-tests : (k : Kind) (identifier : ℕ) (r : Report) → buildReport k identifier r ≡ inOrder (ltb 0x1FFFFFFF identifier) (unlisted k r) (misfit k r) (frameWith identifier (bodyOf (reportBytes k r)))
+pub report-by-tests : (k : Kind) (identifier : ℕ) (r : Report) → buildReport k identifier r ≡ inOrder (overIdentifier identifier) (unlisted k r) (misfit k r) (frameWith identifier (bodyOf (reportBytes k r)))
 unfolding buildReport
 report-by-tests k identifier r = refl
 
-pub request-by-tests : (k : Kind) (identifier : ℕ) (r : Request) → buildRequest k identifier r ≡ inOrder (ltb 0x1FFFFFFF identifier) (unlistedRequest k r) false (frameWith identifier (bodyOf (requestBytes k r)))
+pub request-by-tests : (k : Kind) (identifier : ℕ) (r : Request) → buildRequest k identifier r ≡ inOrder (overIdentifier identifier) (unlistedRequest k r) false (frameWith identifier (bodyOf (requestBytes k r)))
 unfolding buildRequest
 request-by-tests k identifier r = refl
 
 -- 6 is looked at only where 3 is not due
-report-is : (k : Kind) (identifier : ℕ) (r : Report) → HeldReport r → buildReport k identifier r ≡ inOrder (ltb 0x1FFFFFFF identifier) (unlisted k r) (sixOf k r) (frameWith identifier (bodyOf (reportBytes k r)))
+report-is : (k : Kind) (identifier : ℕ) (r : Report) → HeldReport r → buildReport k identifier r ≡ inOrder (overIdentifier identifier) (unlisted k r) (sixOf k r) (frameWith identifier (bodyOf (reportBytes k r)))
 report-is k identifier r held =
     report-by-tests k identifier r
     ∙ decided (unlisted k r) (λ y. rw y refl) (λ y. rw (y, six-is k r held y) refl)
 
 pub report-built : (k : Kind) (identifier : ℕ) (r : Report) → HeldReport r → Builds (buildReport k identifier r) (reportBuildConditions k identifier r) (frameOf identifier (bodyOf (reportBytes k r)))
 report-built k identifier r held =
-    builds (buildReport k identifier r) (ltb 0x1FFFFFFF identifier) (unlisted k r) (sixOf k r) identifier (reportBytes k r) (report-is k identifier r held)
+    builds (buildReport k identifier r) (overIdentifier identifier) (unlisted k r) (sixOf k r) identifier (reportBytes k r) (report-is k identifier r held)
 
 pub request-built : (k : Kind) (identifier : ℕ) (r : Request) → Builds (buildRequest k identifier r) (requestBuildConditions k identifier r) (frameOf identifier (bodyOf (requestBytes k r)))
 request-built k identifier r =
-    builds (buildRequest k identifier r) (ltb 0x1FFFFFFF identifier) (unlistedRequest k r) false identifier (requestBytes k r) (request-by-tests k identifier r)
+    builds (buildRequest k identifier r) (overIdentifier identifier) (unlistedRequest k r) false identifier (requestBytes k r) (request-by-tests k identifier r)
 
 -- 01 to 0B
 pub words-built : WordsBuilt
 unfolding buildReport
-words-built k identifier mux word h low high = rw (le-ltb 0x1FFFFFFF identifier h, word-row k mux low high) refl
+words-built k identifier mux word h low high = let within : overIdentifier identifier ≡ false = le-ltb _ _ h in rw (within, word-row k mux low high) refl
 
 -- ---- byte 0
 

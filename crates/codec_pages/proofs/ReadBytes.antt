@@ -7,7 +7,7 @@ use native.Mathlib.Nat.{mod-eq-of-lt}
 use native.Mathlib.Numerals.{add-one}
 use native.Mathlib.Omega.{arith}
 use borrow.Author.Tests.{eqb-true, lt-ltb, le-ltb, not-false}
-use lib.Dec.{ltb, eqb}
+use lib.Dec.{eqb}
 use lib.ListN.{getD, length, take, replicate}
 use Rattle.words.proofs.Tests.{or-left, or-right}
 use Rattle.words.proofs.Words.{bytes-word}
@@ -18,7 +18,7 @@ use Rattle.words.specs.declared.Order.the-variants.{Big}
 use Rattle.codec_pages.specs.declared.frame.Frame.{Frame}
 use Rattle.codec_pages.specs.declared.rows.Kind.{Kind}
 use Rattle.codec_pages.specs.declared.rows.Kind.the-variants.{Sim100, Sim101}
-use Rattle.codec_pages.specs.Frames.{asBuilt, overLimits, notExpected, bodyOf, frameWith}
+use Rattle.codec_pages.specs.Frames.{overIdentifier, asBuilt, overLimits, notExpected, bodyOf, frameWith}
 use Rattle.codec_pages.specs.Held.{HeldFrame}
 use Rattle.codec_pages.specs.Promise.{cleared}
 use Rattle.codec_pages.proofs.Limits.{limits}
@@ -92,7 +92,7 @@ module _ (b : List ℕ) (h : Bytes b) where
 pub record Passed (identifier : ℕ) (f : Frame) : Type 0 where
   pub extended : f .extended ≡ true
   pub same : f .identifier ≡ identifier
-  pub low : ltb 0x1FFFFFFF identifier ≡ false
+  pub low : overIdentifier identifier ≡ false
 
 pub passed : (identifier : ℕ) (f : Frame) → overLimits f ≡ false → notExpected identifier f ≡ false → Passed identifier f
 passed identifier f h l =

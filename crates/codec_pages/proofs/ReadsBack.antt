@@ -35,7 +35,7 @@ use Rattle.codec_pages.specs.declared.request.Request.{Request}
 use Rattle.codec_pages.specs.declared.request.Request.the-variants.{ReadIsolationState, ReadResistances, ReadCapacitances, ReadVoltages, ReadBattery, ReadErrorFlags, ReadWord, ReadTemperature, SetWorkingVoltage}
 use Rattle.codec_pages.specs.declared.request.RequestReading.the-variants.{Read as Asked}
 use Rattle.codec_pages.specs.Requests.{requestOf, readRequest, unlistedRequest, readBytes, requestBytes, buildRequest}
-use Rattle.codec_pages.specs.Frames.{asBuilt, bodyOf, frameOf, frameWith, notBuilt}
+use Rattle.codec_pages.specs.Frames.{overIdentifier, asBuilt, bodyOf, frameOf, frameWith, notBuilt}
 use Rattle.codec_pages.specs.Table.{rowOf, isRefused, entryOf, frameRow, requestLength, flagsLength}
 use Rattle.codec_pages.specs.Reports.{voltageOf, badStatus, wrongStatus, estimatesIn, voltagesIn, batteryIn, reportOf, readReport}
 use Rattle.codec_pages.specs.Building.{unlisted, voltageMisfit, flagsMisfit, misfit, estimatesBytes, voltagesRaw, voltagesBytes, batteryRaw, batteryBytes, flagsBytes, wordBytes, voltageBytes, reportBytes, buildReport}
@@ -71,7 +71,7 @@ not-accepted why f e =
 
 -- ---- a built frame is read by the row that it was built by
 
-module _ (k : Kind) (identifier : ℕ) (low : ltb 0x1FFFFFFF identifier ≡ false) where
+module _ (k : Kind) (identifier : ℕ) (low : overIdentifier identifier ≡ false) where
   opened : (bs : List ℕ) (row : Row) (report request : ℕ) → ltb 8 (length bs) ≡ false → eqb (length bs) 0 ≡ false → rowOf k (getD (bodyOf bs .bytes) 0 0) ≡ Listed row report request → frameRow k identifier (frameOf identifier (bodyOf bs)) ≡ Listed row report request
   opened bs row report request h l e = rw (h, low, eq-eqb identifier identifier refl, l) e
 
@@ -87,7 +87,7 @@ module _ (k : Kind) (identifier : ℕ) (low : ltb 0x1FFFFFFF identifier ≡ fals
 
 -- ---- reports
 
-module _ (identifier : ℕ) (low : ltb 0x1FFFFFFF identifier ≡ false) where
+module _ (identifier : ℕ) (low : overIdentifier identifier ≡ false) where
   read-flags : (k : Kind) (e : ErrorFlags) → badStatus k (e .status) ≡ false → flagsMisfit k (e .flags) ≡ false → e .flags < 65536 → readReport k identifier (frameOf identifier (bodyOf (flagsBytes k e))) ≡ Read (Errors e)
   unfolding entryOf
   read-flags Sim100 e status fits h =
@@ -139,7 +139,7 @@ module _ (identifier : ℕ) (low : ltb 0x1FFFFFFF identifier ≡ false) where
 pub report-reads-back : ReportReadsBack
 unfolding buildReport
 report-reads-back k identifier r f h e =
-    decided (ltb 0x1FFFFFFF identifier)
+    decided (overIdentifier identifier)
     (λ x. not-accepted OverLimits f (rw x at e))
     (λ x. decided (unlisted k r)
     (λ y. not-accepted NotListed f (rw (x, y) at e))
@@ -150,7 +150,7 @@ report-reads-back k identifier r f h e =
 
 -- ---- requests
 
-module _ (identifier : ℕ) (low : ltb 0x1FFFFFFF identifier ≡ false) where
+module _ (identifier : ℕ) (low : overIdentifier identifier ≡ false) where
   asked-as : (k : Kind) (bs : List ℕ) (row : Row) (report : ℕ) → ltb 8 (length bs) ≡ false → eqb (length bs) 0 ≡ false → rowOf k (getD (bodyOf bs .bytes) 0 0) ≡ Listed row report (length bs) → readRequest k identifier (frameOf identifier (bodyOf bs)) ≡ Asked (requestOf row (bodyOf bs .bytes))
   unfolding readRequest
   asked-as k bs row report h l e =
@@ -190,7 +190,7 @@ module _ (identifier : ℕ) (low : ltb 0x1FFFFFFF identifier ≡ false) where
 pub request-reads-back : RequestReadsBack
 unfolding buildRequest
 request-reads-back k identifier r f h e =
-    decided (ltb 0x1FFFFFFF identifier)
+    decided (overIdentifier identifier)
     (λ x. not-accepted OverLimits f (rw x at e))
     (λ x. decided (unlistedRequest k r)
     (λ y. not-accepted NotListed f (rw (x, y) at e))

@@ -18,7 +18,7 @@ use Rattle.codec_pages.specs.declared.report.Battery.{Battery}
 use Rattle.codec_pages.specs.declared.report.ErrorFlags.{ErrorFlags}
 use Rattle.codec_pages.specs.declared.report.Report.{Report}
 use Rattle.codec_pages.specs.declared.report.Report.the-variants.{IsolationState, Resistances, Capacitances, PoleVoltages, BatteryVoltage, Errors, Word, Temperature, WorkingVoltage}
-use Rattle.codec_pages.specs.Frames.{bodyOf, frameWith, notBuilt}
+use Rattle.codec_pages.specs.Frames.{overIdentifier, bodyOf, frameWith, notBuilt}
 use Rattle.codec_pages.specs.Table.{rowOf, noWord, isRefused}
 use Rattle.codec_pages.specs.Reports.{badStatus}
 
@@ -108,6 +108,6 @@ reportBytes k (WorkingVoltage v) = voltageBytes v
 -- "Building a frame: 1 (identifier), 3, 6."
 unfoldable pub buildReport : Kind → ℕ → Report → Built
 buildReport k identifier r =
-    cond (ltb 0x1FFFFFFF identifier) (notBuilt OverLimits)
+    cond (overIdentifier identifier) (notBuilt OverLimits)
     (cond (unlisted k r) (notBuilt NotListed)
     (cond (misfit k r) (notBuilt DoesNotFit) (frameWith identifier (bodyOf (reportBytes k r)))))

@@ -3,7 +3,7 @@ use Prim.Native.Nat.{ℕ, _*_, _/_, _%_}
 use mathlib.Core.Bool.{Bool, true, false, not, cond, _&&_, _||_}
 use mathlib.Core.List.{List, [], _∷_, map}
 use mathlib.Core.Option.{Option, none, some}
-use lib.Dec.{ltb, leb, eqb}
+use lib.Dec.{leb, eqb}
 use lib.IntN.{ℤ, pos, negsuc}
 use lib.ListN.{getD}
 use Rattle.words.specs.Signed.{holds, holdsUnsigned}
@@ -12,7 +12,7 @@ use Rattle.codec_pages.specs.declared.frame.Frame.{Frame}
 use Rattle.codec_pages.specs.declared.rows.Kind.{Kind}
 use Rattle.codec_pages.specs.declared.report.Report.{Report}
 use Rattle.codec_pages.specs.declared.request.Request.{Request}
-use Rattle.codec_pages.specs.Frames.{overLimits, notExpected, muxOf}
+use Rattle.codec_pages.specs.Frames.{overIdentifier, overLimits, notExpected, muxOf}
 use Rattle.codec_pages.specs.Table.{Field, Entry, entryOf, valueIn}
 use Rattle.codec_pages.specs.Told.{Values, reportMux, reportValues}
 use Rattle.codec_pages.specs.Building.{isSim100, unlisted}
@@ -102,7 +102,7 @@ sixOf k r =
 
 -- "Building a frame: 1 (identifier), 3, 6." Every value that a request's type holds fits: 6 is never due
 abbrev pub reportBuildConditions : Kind → ℕ → Report → List Condition
-reportBuildConditions k identifier r = (1 when ltb 0x1FFFFFFF identifier) ∷ (3 when unlisted k r) ∷ (6 when sixOf k r) ∷ []
+reportBuildConditions k identifier r = (1 when overIdentifier identifier) ∷ (3 when unlisted k r) ∷ (6 when sixOf k r) ∷ []
 
 abbrev pub requestBuildConditions : Kind → ℕ → Request → List Condition
-requestBuildConditions k identifier r = (1 when ltb 0x1FFFFFFF identifier) ∷ (3 when unlistedRequest k r) ∷ (6 when false) ∷ []
+requestBuildConditions k identifier r = (1 when overIdentifier identifier) ∷ (3 when unlistedRequest k r) ∷ (6 when false) ∷ []

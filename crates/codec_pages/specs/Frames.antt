@@ -10,11 +10,15 @@ use Rattle.codec_pages.specs.declared.frame.Body.{Body}
 use Rattle.codec_pages.specs.declared.frame.Built.{Built}
 use Rattle.refusal.specs.declared.Acceptance.the-variants.{Accepted, Refused}
 
+-- an identifier of more than 29 bits
+abbrev pub overIdentifier : ℕ → Bool
+overIdentifier identifier = ltb 0x1FFFFFFF identifier
+
 -- 1: "a frame's length is over 8, or its identifier over 0x1FFFFFFF (extended) or 0x7FF (standard)"
 abbrev pub overLimits : Frame → Bool
 overLimits f =
     ltb 8 (f .length)
-    || f .extended && ltb 0x1FFFFFFF (f .identifier)
+    || f .extended && overIdentifier (f .identifier)
     || not (f .extended) && ltb 0x7FF (f .identifier)
 
 -- 2: "a report or request is not extended, or not on the expected identifier"

@@ -3,7 +3,7 @@
 use Prim.Native.Nat.{ℕ}
 use mathlib.Core.Bool.{Bool, not, cond}
 use mathlib.Core.List.{List, [], _∷_}
-use lib.Dec.{ltb, eqb}
+use lib.Dec.{eqb}
 use lib.ListN.{getD}
 use Rattle.refusal.specs.declared.Refusal.the-variants.{OverLimits, NotListed, WrongLength}
 use Rattle.codec_pages.specs.declared.frame.Frame.{Frame}
@@ -18,7 +18,7 @@ use Rattle.codec_pages.specs.declared.request.Request.{Request}
 use Rattle.codec_pages.specs.declared.request.Request.the-variants.{ReadIsolationState, ReadResistances, ReadCapacitances, ReadVoltages, ReadBattery, ReadErrorFlags, ReadWord, ReadTemperature, SetWorkingVoltage}
 use Rattle.codec_pages.specs.declared.request.RequestReading.{RequestReading}
 use Rattle.codec_pages.specs.declared.request.RequestReading.the-variants.{Read, Refused}
-use Rattle.codec_pages.specs.Frames.{bodyOf, frameWith, notBuilt}
+use Rattle.codec_pages.specs.Frames.{overIdentifier, bodyOf, frameWith, notBuilt}
 use Rattle.codec_pages.specs.Table.{numberAt, rowOf, noWord, isRefused, frameRow}
 use Rattle.codec_pages.specs.Building.{voltageBytes}
 
@@ -79,5 +79,5 @@ requestBytes k (SetWorkingVoltage v) = voltageBytes v
 -- "Building a frame: 1 (identifier), 3, 6." A working voltage of 16 bits always fits its field
 unfoldable pub buildRequest : Kind → ℕ → Request → Built
 buildRequest k identifier r =
-    cond (ltb 0x1FFFFFFF identifier) (notBuilt OverLimits)
+    cond (overIdentifier identifier) (notBuilt OverLimits)
     (cond (unlistedRequest k r) (notBuilt NotListed) (frameWith identifier (bodyOf (requestBytes k r))))

@@ -13,8 +13,8 @@ use Rattle.codec_pages.specs.declared.frame.Frame.{Frame}
 use Rattle.codec_pages.specs.Table.{part, numberAt}
 use Rattle.maintenance_pages.specs.declared.message.Message.the-variants.{Other, Unlock, Commit, Answer, SerialRequest}
 use Rattle.maintenance_pages.specs.Settings.{settingOf}
-use Rattle.maintenance_pages.specs.Messages.{byte, isUnlock, isCommit, isAnswer, asksSerial, wordAsked, asRead, asWrite, message, sameSeven, challengeOf, answerTo}
-use Rattle.maintenance_pages.specs.Means.{Begins, Tells}
+use Rattle.maintenance_pages.specs.Messages.{byte, isUnlock, isCommit, isAnswer, asksSerial, wordAsked, asRead, asWrite, message, sameSeven}
+use Rattle.maintenance_pages.specs.Means.{Begins, Tells, rightBytes}
 use Rattle.maintenance_pages.specs.Promise.{HeardMeans, RightMeans}
 
 -- ---- the tests in plain words
@@ -108,5 +108,5 @@ heard-means k f = both _ _ Iff·rfl (equal (f .identifier) (k .receive))
 pub right-means : RightMeans
 right-means serial f = (
   same-seven _ _ _ _ _ _ _ _ _ _ _ _ _ _,
-  seven-same (part (f .bytes) 1 7) (answerTo (challengeOf serial)),
+  seven-same (part (f .bytes) 1 7) (rightBytes serial),
 )

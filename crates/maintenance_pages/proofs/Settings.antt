@@ -1,20 +1,20 @@
 -- Settings: which values are legal and which settings accepted, in plain words, and what follows. Assumes nothing.
 use Prim.Native.Nat.{ℕ, _<_, _≤_}
 use mathlib.Core.Path.{_≡_, refl, sym, ap, _∙_}
-use mathlib.Core.Bool.{Bool, cond}
+use mathlib.Core.Bool.{Bool, true, false, cond}
 use mathlib.Core.Logic.{inl, inr}
 use lib.Dec.{eqb, lit<}
 use borrow.Author.Tests.{eq-eqb, ne-eqb}
 use native.Mathlib.Omega.{arith}
-use Rattle.words.proofs.Tests.{by-test, at-most, below, equal, both, either, refuted}
+use Rattle.words.proofs.Tests.{at-most, below, equal, both, either, refuted}
 use Rattle.maintenance_pages.specs.declared.setting.Setting.{Setting}
 use Rattle.maintenance_pages.specs.declared.setting.Setting.the-variants.{ReceiveId, TransmitId, Speed, Voltage, WarningLevel, FaultLevel}
 use Rattle.maintenance_pages.specs.declared.setting.Named.{Named}
 use Rattle.maintenance_pages.specs.declared.setting.Named.the-variants.{Unknown, Known}
 use Rattle.maintenance_pages.specs.declared.setting.Settings.{Settings}
-use Rattle.maintenance_pages.specs.Settings.{code, settingOf, legal, valueOf, withValue, speedNumber}
+use Rattle.maintenance_pages.specs.Settings.{code, settingOf, legal, valueOf, withValue}
 use Rattle.maintenance_pages.specs.Means.{Legal}
-use Rattle.maintenance_pages.specs.Promise.{EachSetting, LegalMeans, AcceptedMeans, EqualAccepted, NegativeRefused}
+use Rattle.maintenance_pages.specs.Promise.{EachSetting, LegalMeans, AcceptedMeans, EqualAccepted, NegativeRefused, SpeedsShown}
 
 -- ---- in plain words
 
@@ -127,6 +127,9 @@ not-negative rating FaultLevel v r h l = let q = l .1 in omega arith
 pub negative : NegativeRefused
 negative rating s v r h = refuted (legal rating s v) (legal-means rating s v) (not-negative rating s v r h)
 
--- a speed is shown in three figures
-pub speed-below : (v : ℕ) → speedNumber v < 1000
-speed-below v = by-test (eqb v 0x00CA0250) (λ (b : Bool). cond b 250 500 < 1000) (lit< tt) (lit< tt)
+either-below : (b : Bool) (x y n : ℕ) → x < n → y < n → cond b x y < n
+either-below true x y n p q = p
+either-below false x y n p q = q
+
+pub speeds : SpeedsShown
+speeds = record { slow = refl; fast = refl; figures = λ v. either-below (eqb v 0x00CA0250) _ _ 1000 (lit< tt) (lit< tt) }

@@ -4,7 +4,8 @@ use Prim.Native.Nat.{ℕ, _<_, _≤_}
 use mathlib.Core.Path.{_≡_}
 use mathlib.Core.List.{List, [], _∷_}
 use mathlib.Core.Logic.{_⊎_}
-use lib.ListN.{length}
+use lib.Bits.{bitXor}
+use lib.ListN.{length, getD}
 use Rattle.codec_pages.specs.declared.frame.Frame.{Frame}
 use Rattle.codec_pages.specs.Table.{part, numberAt}
 use Rattle.maintenance_pages.specs.declared.setting.Setting.{Setting}
@@ -14,9 +15,11 @@ use Rattle.maintenance_pages.specs.declared.message.SerialWord.{SerialWo
 use Rattle.maintenance_pages.specs.declared.message.SerialWord.the-variants.{First, Second, Third, Last}
 use Rattle.maintenance_pages.specs.declared.message.Message.{Message}
 use Rattle.maintenance_pages.specs.declared.message.Message.the-variants.{Other, Unlock, Commit, Answer, SerialRequest, Read, Write}
-use Rattle.maintenance_pages.specs.Messages.{byte}
 
 -- ---- what a frame tells
+
+abbrev pub firstByte : Frame → ℕ
+firstByte f = getD (f .bytes) 0 0
 
 -- a frame of this length that begins with these bytes
 abbrev pub Begins : Frame → ℕ → List ℕ → Type 0
@@ -50,10 +53,22 @@ abbrev pub Tells : Message → Frame → Type 0
 Tells Unlock f = Begins f 3 (0x14 ∷ 0x28 ∷ 0xD5 ∷ [])
 Tells Commit f = Begins f 3 (0x14 ∷ 0x9A ∷ 0x28 ∷ [])
 Tells Answer f = Begins f 8 (0x14 ∷ [])
-Tells (SerialRequest w) f = ((f .length ≡ 1) ⊎ (f .length ≡ 3)) × AsksFor w (byte f 0)
-Tells (Read s) f = (f .length ≡ 1) × Coded s (byte f 0)
-Tells (Write s v) f = (f .length ≡ 5) × (Coded s (byte f 0) × (v ≡ numberAt (f .bytes) 1 4))
+Tells (SerialRequest w) f = ((f .length ≡ 1) ⊎ (f .length ≡ 3)) × AsksFor w (firstByte f)
+Tells (Read s) f = (f .length ≡ 1) × Coded s (firstByte f)
+Tells (Write s v) f = (f .length ≡ 5) × (Coded s (firstByte f) × (v ≡ numberAt (f .bytes) 1 4))
 Tells Other f = ⊥
+
+-- the seven bytes of a right answer: the first seven serial bytes "xored with the seven constants 53 4E 44 53 49 4D 42"
+abbrev pub rightBytes : List ℕ → List ℕ
+rightBytes serial =
+    bitXor (getD serial 0 0) 0x53
+    ∷ bitXor (getD serial 1 0) 0x4E
+    ∷ bitXor (getD serial 2 0) 0x44
+    ∷ bitXor (getD serial 3 0) 0x53
+    ∷ bitXor (getD serial 4 0) 0x49
+    ∷ bitXor (getD serial 5 0) 0x4D
+    ∷ bitXor (getD serial 6 0) 0x42
+    ∷ []
 
 -- ---- which values are legal, and which settings power-on accepts
 

@@ -1,9 +1,10 @@
 -- What is promised of settings and messages, for every frame and every value there is. `proofs/Promise` proves it.
-use Prim.Native.Nat.{ℕ, _<_, _≤_}
+use Prim.Native.Nat.{ℕ, _-_, _<_, _≤_}
 use mathlib.Core.Path.{_≡_}
 use mathlib.Core.Bool.{true, false}
-use mathlib.Core.List.{List, _∷_}
+use mathlib.Core.List.{List, _∷_, _++_}
 use mathlib.Core.Logic.{_↔_}
+use lib.ListN.{length as size, replicate}
 use Rattle.words.specs.declared.Order.the-variants.{Big}
 use Rattle.words.specs.Words.{Bytes, bytesOf}
 use Rattle.codec_pages.specs.declared.frame.Frame.{Frame}
@@ -16,8 +17,8 @@ use Rattle.maintenance_pages.specs.declared.message.SerialWord.{SerialWo
 use Rattle.maintenance_pages.specs.declared.message.Message.{Message}
 use Rattle.maintenance_pages.specs.declared.message.Message.the-variants.{Other, Unlock, Commit, Answer, SerialRequest, Read, Write}
 use Rattle.maintenance_pages.specs.Settings.{code, legal, accepted, valueOf, withValue, speedNumber}
-use Rattle.maintenance_pages.specs.Messages.{message, heardOn, challengeOf, answerTo, isRight, says, serialMux, serialValue, serialReport}
-use Rattle.maintenance_pages.specs.Means.{Coded, Tells, serialBytes, Legal, Acceptable}
+use Rattle.maintenance_pages.specs.Messages.{message, heardOn, isRight, quiet, says, serialMux, serialValue, serialReport}
+use Rattle.maintenance_pages.specs.Means.{Coded, Tells, rightBytes, serialBytes, Legal, Acceptable}
 
 -- ---- messages
 
@@ -35,9 +36,9 @@ pub record Says (f : Frame) : Type 0 where
 abbrev pub HeardMeans : Type 0
 HeardMeans = (k : Settings) (f : Frame) → heardOn k f ≡ true ↔ (f .extended ≡ true) × (f .identifier ≡ k .receive)
 
--- an answer is right exactly when its seven bytes are the answer to the challenge
+-- an answer is right exactly when its seven bytes are the challenge's, the first seven serial bytes, xored with the constants
 abbrev pub RightMeans : Type 0
-RightMeans = (serial : List ℕ) (f : Frame) → isRight serial f ≡ true ↔ part (f .bytes) 1 7 ≡ answerTo (challengeOf serial)
+RightMeans = (serial : List ℕ) (f : Frame) → isRight serial f ≡ true ↔ part (f .bytes) 1 7 ≡ rightBytes serial
 
 -- Of two frames that differ only past their length: what they say, whether they are heard and, of an answer, whether it is right are the same. (Whether
 -- a frame that is no answer is right, nobody asks: the question looks at eight bytes.)
@@ -80,6 +81,23 @@ EqualAccepted = (rating : ℕ) (k : Settings) → accepted rating k ≡ true →
 abbrev pub NegativeRefused : Type 0
 NegativeRefused = (rating : ℕ) (s : Setting) (v : ℕ) → rating ≤ 65535 → 2147483648 ≤ v → legal rating s v ≡ false
 
+-- the two speeds, as they are shown
+pub record SpeedsShown : Type 0 where
+  pub slow : speedNumber 0x00CA0250 ≡ 250
+  pub fast : speedNumber 0x00CA0500 ≡ 500
+  -- and any other number in three figures too
+  pub figures : (v : ℕ) → speedNumber v < 1000
+
+-- ---- what the monitor says
+
+-- bytes said on an identifier are sent: an extended frame on it, of their number, with these bytes and zeros after
+pub record Sent (transmit : ℕ) (said : List ℕ) : Type 0 where
+  pub sent : says transmit said .sent ≡ true
+  pub extended : says transmit said .frame .extended ≡ true
+  pub identifier : says transmit said .frame .identifier ≡ transmit
+  pub length : says transmit said .frame .length ≡ size said
+  pub bytes : says transmit said .frame .bytes ≡ said ++ replicate (8 - size said) 0
+
 -- ---- serial words
 
 -- the report that the codec builds of a serial word, on every identifier that the limits allow
@@ -104,7 +122,8 @@ pub record Promise : Type 0 where
   pub accepted : AcceptedMeans
   pub equal-identifiers : EqualAccepted
   pub negative : NegativeRefused
+  pub sent : (transmit : ℕ) (bytes : List ℕ) → Sent transmit bytes
+  pub not-sent : quiet .sent ≡ false
   pub serial-built : SerialBuilt
   pub serial-words : SerialWords
-  -- a speed is shown in three figures
-  pub speed-figures : (v : ℕ) → speedNumber v < 1000
+  pub speeds : SpeedsShown

@@ -22,7 +22,7 @@ use Rattle.monitor.specs.Bench.{early, refusedBy, acceptedAt, outcomeOf,
 use Rattle.rules.specs.History.{storedAfter, replyTo}
 use Rattle.rules.specs.Promise.{OnIdentifier}
 use Rattle.rules.proofs.Promise.{promise as rules}
-use Rattle.rules.specs.Past.{AlikeEvents, AlikeHistories}
+use Rattle.rules.specs.Alike.{AlikeEvents, AlikeHistories}
 use Rattle.monitor.specs.Promise.{Holds, SameBench}
 use Rattle.monitor.proofs.Reached.{bench-after, same}
 use Rattle.monitor.proofs.WorkedOut.{worked-out, runs-accepted, unit-there}

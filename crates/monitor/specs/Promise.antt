@@ -12,7 +12,7 @@ use Rattle.time.specs.Times.{ticksBetween}
 use Rattle.rules.specs.Events.{Event, PowerOn, IsAccepted, stampOf, lastStamp, Run, acceptedOf}
 use Rattle.rules.specs.Rules.{woken, step}
 use Rattle.rules.specs.History.{storedAfter, lastStart, replyTo}
-use Rattle.rules.specs.Past.{AlikeEvents, AlikeHistories}
+use Rattle.rules.specs.Alike.{AlikeEvents, AlikeHistories}
 use Rattle.rules.specs.Demand.{Demand}
 use Rattle.rules.specs.Given.{on, ticks, givenReply}
 use Rattle.rules.specs.Promise.{Fresh, OnIdentifier, stateOf}

@@ -14,8 +14,9 @@ use Rattle.maintenance_pages.specs.Messages.{message, heardOn}
 use Rattle.time.specs.declared.Stamp.{Stamp}
 use Rattle.rules.specs.Events.{Event, frameEvent, resetEvent, PowerOn, stampOf, lastStamp}
 use Rattle.rules.specs.History.{commits, taking, storedAfter, inSession, lastWrite}
-use Rattle.rules.specs.Demand.{Reading, lookingBack, Opened, Stores, Changes, Demand}
+use Rattle.rules.specs.Demand.{Reading, lookingBack, heardSince, Opened, Stores, Changes, Demand}
 use Rattle.rules.proofs.Looking.{value-taking, commits-only, stored-frame}
+use Rattle.rules.proofs.Written.{last-one}
 use Rattle.rules.proofs.Starts.{last-start}
 use Rattle.rules.proofs.Sessions.{opened-session, opened-writes}
 use Rattle.rules.proofs.Opened.{session-opened}
@@ -85,10 +86,11 @@ module _ (p : PowerOn) (h : List Event) where
   changes-back e l =
       record {
         only = λ s d. decided (storesAt (lookingBack p) h e) (stores p (lookingBack p) h sessions-back e l) (λ t. absurd (d (ap (λ (k : Settings). valueOf k s) (stays-there e t))));
-        takes = λ w s.
+        takes = λ w s v a.
             ap (λ (k : Settings). valueOf k s) (stored-there e (stores-there p (lookingBack p) h sessions-back e l w))
             ∙ (value-taking (storedAfter p h) (λ x. lastWrite p h x) s
-            ∙ ap (λ (v : Option ℕ). Option·getD v (valueOf (storedAfter p h) s)) (opened-writes p h (w .at) (w .session) s));
+            ∙ ap (λ (u : Option ℕ). Option·getD u (valueOf (storedAfter p h) s))
+            (opened-writes p h (w .at) (w .session) s ∙ last-one (p .rating) s (heardSince (lookingBack p) h (w .session .answer)) v a));
         stays = λ n. decided (storesAt (lookingBack p) h e) (λ t. absurd (n (stores p (lookingBack p) h sessions-back e l t))) (stays-there e);
       }
 

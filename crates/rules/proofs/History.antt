@@ -28,7 +28,7 @@ use Rattle.rules.specs.Rules.{lateAnswer, inPhase, sessionAt, goesOn, an
 use Rattle.rules.specs.Events.{Event, frameEvent, resetEvent, PowerOn, lastStamp, Run}
 use Rattle.rules.specs.Promise.{isOpen}
 use Rattle.rules.proofs.Looking.{value-taking}
-use Rattle.rules.proofs.Rules.{woken-later, reset-woken}
+use Rattle.rules.proofs.Rules.{woken-later, reset-woken, unit-next}
 use Rattle.rules.specs.History.{near, restartAfter, timelyUnlock, inTime, timelyAnswer, commits, writes, leavesOpen, leavesPending, leavesStart, newest, taking, storedAfter, inSession, pendingSince, lastStart, lastWrite, replyToAnswer, replyOutside, replyInside, replyTo}
 
 -- ---- limits of time, as the rules have them
@@ -154,11 +154,13 @@ agrees : (p : PowerOn) (h : List Event) → Run p h → (t : Stamp) → lastStam
 unfolding storedAfter lastHeard
 agrees p [] r t l = refl
 agrees p (resetEvent at ∷ h) r t l =
-    ap (λ (m : Turn). woken t (m .monitor)) (reset-woken at (unitAfter p h))
+    ap (woken t) (unit-next p (resetEvent at) h)
+    ∙ ap (λ (m : Turn). woken t (m .monitor)) (reset-woken at (unitAfter p h))
     ∙ ap (λ (w : Monitor). woken t (wasReset at w .monitor)) (agrees p h (r .1 .1) at (r .1 .0))
 agrees p (frameEvent at storing f ∷ h) r t l =
     let now : woken at (unitAfter p h) ≡ found p h at = agrees p h (r .1 .1) at (r .1 .0) in
-    ap (λ (w : Monitor). woken t (frameMet at storing f w .monitor)) now
+    ap (woken t) (unit-next p (frameEvent at storing f) h)
+    ∙ ap (λ (w : Monitor). woken t (frameMet at storing f w .monitor)) now
     ∙ decided (heardOn (storedAfter p h) f)
     (λ x. rw x (met-leaves p (storedAfter p h) (lastStart p h at) (lastHeard p h) (λ s. lastWrite p h s) at t storing f (inSession p h at) (pendingSince p h)))
     (λ x. rw x (ap (woken t) (sym now) ∙ (woken-later at t (unitAfter p h) l ∙ agrees p h (r .1 .1) t (let q = r .1 .0 in omega arith))))

@@ -1,42 +1,23 @@
 -- What the history says is stored is legal. Assumes nothing.
 use Prim.Native.Nat.{ℕ, _<_}
-use mathlib.Core.Path.{_≡_, refl, sym, ap, subst, _∙_}
+use mathlib.Core.Path.{_≡_, refl, sym, ap, _∙_}
 use mathlib.Core.Bool.{Bool, true, cond, _&&_}
 use mathlib.Core.List.{List, [], _∷_}
-use mathlib.Core.Option.{Option, none, some, Option·getD, Option·some-injective}
-use lib.Dec.{eqb}
-use borrow.Author.Tests.{eqb-true}
-use Rattle.words.proofs.Tests.{decided, and-left, and-right}
+use mathlib.Core.Option.{Option, none, some, Option·getD}
+use Rattle.words.proofs.Tests.{decided}
 use Rattle.maintenance_pages.specs.declared.setting.Setting.{Setting}
 use Rattle.maintenance_pages.specs.declared.setting.Setting.the-variants.{ReceiveId, TransmitId, Speed, Voltage, WarningLevel, FaultLevel}
 use Rattle.maintenance_pages.specs.declared.setting.Settings.{Settings}
-use Rattle.maintenance_pages.specs.declared.message.Message.{Message}
-use Rattle.maintenance_pages.specs.declared.message.Message.the-variants.{Other, Unlock, Commit, Answer as Answered, SerialRequest, Read, Write}
-use Rattle.maintenance_pages.specs.Settings.{code, legal}
+use Rattle.maintenance_pages.specs.Settings.{legal}
 use Rattle.maintenance_pages.specs.Messages.{message, heardOn}
 use Rattle.maintenance_pages.specs.Means.{Legal, Acceptable}
 use Rattle.maintenance_pages.proofs.Promise.{promise as maintenance}
 use Rattle.rules.specs.Events.{Event, frameEvent, resetEvent, PowerOn, IsAccepted}
 use Rattle.rules.specs.History.{commits, writes, newest, taking, storedAfter, inSession, lastWrite}
+use Rattle.rules.proofs.Written.{writes-only}
 use Rattle.rules.proofs.Looking.{nothing, write-heard, write-unheard}
 
 -- ---- what is stored is legal
-
--- a write is accepted only if it is legal
-writes-legal : (rating : ℕ) (s : Setting) (x : Message) (v : ℕ) → writes rating s x ≡ some v → legal rating s v ≡ true
-writes-legal rating s Unlock v e = nothing v e
-writes-legal rating s Answered v e = nothing v e
-writes-legal rating s Commit v e = nothing v e
-writes-legal rating s (SerialRequest w) v e = nothing v e
-writes-legal rating s (Read k) v e = nothing v e
-writes-legal rating s (Write k u) v e =
-    decided (legal rating k u && eqb (code k) (code s))
-    (λ t.
-    let its : k ≡ s = maintenance .codes k s (eqb-true (code k) (code s) (and-right (legal rating k u) (eqb (code k) (code s)) t)) in
-    let same : u ≡ v = Option·some-injective u v (rw t at e) in
-    subst (λ (n : ℕ). legal rating s n ≡ true) same (subst (λ (i : Setting). legal rating i u ≡ true) its (and-left (legal rating k u) (eqb (code k) (code s)) t)))
-    (λ t. nothing v (rw t at e))
-writes-legal rating s Other v e = nothing v e
 
 newest-legal : (P : ℕ → Type 0) (new old : Option ℕ) (v : ℕ) → ((n : ℕ) → new ≡ some n → P n) → ((n : ℕ) → old ≡ some n → P n) → newest new old ≡ some v → P v
 newest-legal P none old v n o e = o v e
@@ -53,7 +34,7 @@ module _ (p : PowerOn) where
       (λ o.
       let new = writes (p .rating) s (message f) in
       let now : newest new (lastWrite p h s) ≡ some v = sym (write-heard p at storing f h x s ∙ ap (λ (b : Bool). cond b (newest new (lastWrite p h s)) none) o) ∙ e in
-      newest-legal (λ n. legal (p .rating) s n ≡ true) new (lastWrite p h s) v (writes-legal (p .rating) s (message f)) (written-legal h s) now)
+      newest-legal (λ n. legal (p .rating) s n ≡ true) new (lastWrite p h s) v (λ n q. writes-only (p .rating) s (message f) n q .1) (written-legal h s) now)
       (λ o. nothing v (sym (write-heard p at storing f h x s ∙ ap (λ (b : Bool). cond b (newest (writes (p .rating) s (message f)) (lastWrite p h s)) none) o) ∙ e)))
       (λ x. written-legal h s v (sym (write-unheard p at storing f h x s) ∙ e))
 

@@ -3,6 +3,7 @@ pub mod Rules
 pub mod Speed
 pub mod Replies
 pub mod Looking
+pub mod Written
 pub mod Sessions
 pub mod Opened
 pub mod Starts
@@ -11,5 +12,5 @@ pub mod OneReading
 pub mod History
 pub mod Legal
 pub mod Identifiers
-pub mod Past
+pub mod Alike
 pub mod Promise

@@ -12,10 +12,10 @@ use Rattle.maintenance_pages.specs.Settings.{valueOf}
 use Rattle.maintenance_pages.specs.declared.message.Message.{Message}
 use Rattle.maintenance_pages.specs.declared.message.Message.the-variants.{Other, Unlock, Commit, Answer, SerialRequest, Read, Write}
 use Rattle.maintenance_pages.specs.Messages.{message, heardOn}
-use Rattle.words.proofs.Tests.{false-true}
+use Rattle.words.proofs.Tests.{decided, false-true}
 use Rattle.time.specs.declared.Stamp.{Stamp}
 use Rattle.rules.specs.Events.{Event, frameEvent, PowerOn}
-use Rattle.rules.specs.History.{near, timelyUnlock, timelyAnswer, answers, commits, writes, leavesOpen, leavesPending, leavesStart, newest, taking, storedAfter, inSession, pendingSince, lastStart, lastWrite}
+use Rattle.rules.specs.History.{near, timelyUnlock, timelyAnswer, unlocks, answers, commits, writes, leavesOpen, leavesPending, leavesStart, newest, taking, storedAfter, inSession, pendingSince, lastStart, lastWrite}
 use Rattle.rules.specs.Demand.{lookingBack, heardIn}
 
 -- ---- what a message is
@@ -36,6 +36,22 @@ answers-only x e =
 pub commits-only : (x : Message) → commits x ≡ true → x ≡ Commit
 commits-only x e =
     by-kind x (λ q. false-true (sym e ∙ ap commits q)) (λ q. false-true (sym e ∙ ap commits q)) (λ q. q) (λ a c. false-true (sym e ∙ c))
+
+pub unlocks-only : (x : Message) → unlocks x ≡ true → x ≡ Unlock
+unlocks-only Unlock e = refl
+unlocks-only Answer e = false-true (sym e)
+unlocks-only Commit e = false-true (sym e)
+unlocks-only (SerialRequest w) e = false-true (sym e)
+unlocks-only (Read s) e = false-true (sym e)
+unlocks-only (Write s v) e = false-true (sym e)
+unlocks-only Other e = false-true (sym e)
+
+-- a test that only one message passes, and the words "is not that message"
+pub not-said : (says : Message → Bool) (k x : Message) → (says x ≡ true → x ≡ k) → (x ≡ k → ⊥) → says x ≡ false
+not-said says k x only n = decided (says x) (λ t. absurd (n (only t))) (λ t. t)
+
+pub said-not : (says : Message → Bool) (k x : Message) → says k ≡ true → says x ≡ false → x ≡ k → ⊥
+said-not says k x its e q = false-true (sym (ap says q ∙ its) ∙ e)
 
 -- ---- what was written, or is pending, if anything
 

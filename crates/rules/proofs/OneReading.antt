@@ -5,16 +5,17 @@ use mathlib.Core.Path.{_≡_, refl, sym, ap, subst, _∙_}
 use mathlib.Core.Bool.{Bool, true, false, cond}
 use mathlib.Core.List.{List, [], _∷_, _++_}
 use mathlib.Core.Logic.{_↔_}
-use mathlib.Core.Option.{Option·getD}
+use mathlib.Core.Option.{Option, Option·getD}
 use native.Mathlib.Omega.{arith}
 use Rattle.maintenance_pages.specs.declared.setting.Setting.{Setting}
 use Rattle.maintenance_pages.specs.declared.setting.Settings.{Settings}
 use Rattle.maintenance_pages.specs.Settings.{valueOf}
+use Rattle.maintenance_pages.specs.declared.message.Message.the-variants.{Unlock, Commit, Answer}
 use Rattle.maintenance_pages.specs.Messages.{heardOn}
 use Rattle.time.specs.declared.Stamp.{Stamp}
 use Rattle.rules.specs.Events.{Event, frameEvent, resetEvent, PowerOn, lastStamp, Run}
-use Rattle.rules.specs.History.{unlocks, answers, commits}
-use Rattle.rules.specs.Demand.{Reading, Heard, heardIn, No, Close, lastAccepted, Past, heardSince, Unlocked, Opened, Stores, Changes, Silent, Start, at-power-on, at-reset, at-commit, after-silence, LastStart, Demand, Same}
+use Rattle.rules.specs.Demand.{Reading, Heard, heardIn, No, Close, Past, heardSince, Unlocked, Opened, Stores, Changes, Silent, Start, at-power-on, at-reset, at-commit, after-silence, LastStart, Demand, Same}
+use Rattle.rules.proofs.Written.{lastAccepted, last-there, last-one}
 use Rattle.rules.proofs.Demand.{same-settings, by-store}
 
 -- ---- places in a run
@@ -91,8 +92,8 @@ module _ (p : PowerOn) (r r′ : Reading) where
         unlocking = w .unlocking;
         outside = sym (same .session (u .at) l) ∙ w .outside;
         timely = subst (λ (s : Stamp). u .at .0 ≤ s .0 + 10000) (same .start (u .at) l) (w .timely);
-        no-unlock = subst (No unlocks) (since-same h run b u) (w .no-unlock);
-        no-answer = subst (No answers) (since-same h run b u) (w .no-answer);
+        no-unlock = subst (No Unlock) (since-same h run b u) (w .no-unlock);
+        no-answer = subst (No Answer) (since-same h run b u) (w .no-answer);
       }
 
   opened-same : (h : List Event) → Run p h → Before (Same p r r′) h → (t : Stamp) → Opened p r h t → Opened p r′ h t
@@ -105,7 +106,7 @@ module _ (p : PowerOn) (r r′ : Reading) where
         right = w .right;
         unlocked = unlocked-same (a .before) (run-there h run a .1 .1) (same-there h b a .1) (w .unlocked);
         timely = w .timely;
-        no-commit = subst (No commits) (since-same h run b a) (w .no-commit);
+        no-commit = subst (No Commit) (since-same h run b a) (w .no-commit);
         close = subst (λ (l : List Heard). Close (a .at) l t) (since-same h run b a) (w .close);
       }
 
@@ -157,6 +158,9 @@ module _ (p : PowerOn) (r r′ : Reading) where
 abbrev value : PowerOn → Setting → Settings → List Heard → ℕ
 value p x k l = Option·getD (lastAccepted (p .rating) x l) (valueOf k x)
 
+taken : (p : PowerOn) (r : Reading) (h : List Event) (e : Event) → Changes p r h e → (w : Stores p r h e) (s : Setting) → valueOf (r .stored (e ∷ h)) s ≡ value p s (r .stored h) (heardSince r h (w .session .answer))
+taken p r h e c w s = let l = heardSince r h (w .session .answer) in c .takes w s (lastAccepted (p .rating) s l) (last-there (p .rating) s l)
+
 same-test : (b c : Bool) → (b ≡ true → c ≡ true) → (c ≡ true → b ≡ true) → b ≡ c
 same-test true c f g = sym (f refl)
 same-test false true f g = g refl
@@ -191,10 +195,10 @@ module _ (p : PowerOn) (r r′ : Reading) (d : Demand p r) (d′ : Demand p r′
       let w′ = stores-same p r r′ h (run .1 .1) s b e w in
       same-settings (r .stored (e ∷ h)) (r′ .stored (e ∷ h))
       (λ x.
-      c .takes w x
+      taken p r h e c w x
       ∙ (ap (λ (l : List Heard). value p x (r .stored h) l) (since-same p r r′ h (run .1 .1) b (w .session .answer))
       ∙ (ap (λ (k : Settings). value p x k (heardSince r′ h (w′ .session .answer))) (s .stored)
-      ∙ sym (c′ .takes w′ x)))))
+      ∙ sym (taken p r′ h e c′ w′ x)))))
       (λ none.
       c .stays none
       ∙ (s .stored
@@ -227,11 +231,12 @@ module _ (p : PowerOn) (r r′ : Reading) (d : Demand p r) (same : (h : List Eve
       let back : Stores p r′ h e → Stores p r h e = stores-same p r′ r h (run .1 .1) (flip p r r′ h s) (flip-before p r r′ h b) e in
       record {
         only = λ x q. there (c .only x (λ u. q (ap (λ (k : Settings). valueOf k x) (sym (n .stored)) ∙ (u ∙ ap (λ (k : Settings). valueOf k x) (s .stored)))));
-        takes = λ w x.
+        takes = λ w x v l.
             ap (λ (k : Settings). valueOf k x) (sym (n .stored))
-            ∙ (c .takes (back w) x
+            ∙ (taken p r h e c (back w) x
             ∙ (ap (λ (l : List Heard). value p x (r .stored h) l) (sym (since-same p r′ r h (run .1 .1) (flip-before p r r′ h b) (w .session .answer)))
-            ∙ ap (λ (k : Settings). value p x k (heardSince r′ h (w .session .answer))) (s .stored)));
+            ∙ (ap (λ (k : Settings). value p x k (heardSince r′ h (w .session .answer))) (s .stored)
+            ∙ ap (λ (u : Option ℕ). Option·getD u (valueOf (r′ .stored h) x)) (last-one (p .rating) x (heardSince r′ h (w .session .answer)) v l))));
         stays = λ none. sym (n .stored) ∙ (c .stays (λ w. none (there w)) ∙ s .stored);
       }
 

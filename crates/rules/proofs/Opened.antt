@@ -14,7 +14,7 @@ use Rattle.time.specs.declared.Stamp.{Stamp}
 use Rattle.rules.specs.Events.{Event, frameEvent, resetEvent, PowerOn}
 use Rattle.rules.specs.History.{near, timelyUnlock, inTime, timelyAnswer, unlocks, answers, commits, leavesOpen, leavesPending, storedAfter, inSession, pendingSince, lastStart}
 use Rattle.rules.specs.Demand.{lookingBack, Heard, heardIn, No, Close, Past, heardSince, Unlocked, Opened}
-use Rattle.rules.proofs.Looking.{nothing, answers-only, session-unheard, pending-unheard, session-heard, pending-heard, unheard-since, heard-since}
+use Rattle.rules.proofs.Looking.{nothing, answers-only, said-not, session-unheard, pending-unheard, session-heard, pending-heard, unheard-since, heard-since}
 
 -- ---- one event more
 
@@ -69,7 +69,7 @@ module _ (p : PowerOn) (h : List Event) (s : Stamp) (works : Bool) (g : Frame) (
   unfolding heardIn
   pends-now x m o l q = (record { unlock = now p h s works g x; unlocking = m; outside = o; timely = l; no-unlock = tt; no-answer = tt }, q)
 
-  pends-further : (q : Pends p h u) → (let l = heardSince (lookingBack p) (frameEvent s works g ∷ h) (further p h s works g (q .0 .unlock)) in No unlocks l → No answers l → Pends p (frameEvent s works g ∷ h) u)
+  pends-further : (q : Pends p h u) → (let l = heardSince (lookingBack p) (frameEvent s works g ∷ h) (further p h s works g (q .0 .unlock)) in No Unlock l → No Answer l → Pends p (frameEvent s works g ∷ h) u)
   pends-further (w, q) n a = (
     record { unlock = further p h s works g (w .unlock); unlocking = w .unlocking; outside = w .outside; timely = w .timely; no-unlock = n; no-answer = a },
     q,
@@ -78,12 +78,12 @@ module _ (p : PowerOn) (h : List Event) (s : Stamp) (works : Bool) (g : Frame) (
   pends-heard : heardOn (storedAfter p h) g ≡ true → unlocks (message g) ≡ false → answers (message g) ≡ false → Pends p h u → Pends p (frameEvent s works g ∷ h) u
   pends-heard x n a q =
       let more = further-heard p h s works g (q .0 .unlock) x in
-      pends-further q (subst (No unlocks) more (n, q .0 .no-unlock)) (subst (No answers) more (a, q .0 .no-answer))
+      pends-further q (subst (No Unlock) more (said-not unlocks Unlock (message g) refl n, q .0 .no-unlock)) (subst (No Answer) more (said-not answers Answer (message g) refl a, q .0 .no-answer))
 
   pends-unheard : heardOn (storedAfter p h) g ≡ false → Pends p h u → Pends p (frameEvent s works g ∷ h) u
   pends-unheard x q =
       let same = further-unheard p h s works g (q .0 .unlock) x in
-      pends-further q (subst (No unlocks) same (q .0 .no-unlock)) (subst (No answers) same (q .0 .no-answer))
+      pends-further q (subst (No Unlock) same (q .0 .no-unlock)) (subst (No Answer) same (q .0 .no-answer))
 
 pub pending-unlocked : (p : PowerOn) (h : List Event) (u : Stamp) → pendingSince p h ≡ some u → Pends p h u
 unfolding storedAfter
@@ -112,19 +112,19 @@ answered-timely serial f (some u) at e then =
     then u refl (and-left (isRight serial f) (inTime u at) e) (leb-true _ _ (and-right (isRight serial f) (inTime u at) e))
 
 module _ (p : PowerOn) (h : List Event) (s : Stamp) (works : Bool) (g : Frame) (t : Stamp) where
-  opened-further : (v : Stamp) (w : Opened p (lookingBack p) h v) → (let l = heardSince (lookingBack p) (frameEvent s works g ∷ h) (further p h s works g (w .answer)) in No commits l → Close (w .answer .at) l t → Opened p (lookingBack p) (frameEvent s works g ∷ h) t)
+  opened-further : (v : Stamp) (w : Opened p (lookingBack p) h v) → (let l = heardSince (lookingBack p) (frameEvent s works g ∷ h) (further p h s works g (w .answer)) in No Commit l → Close (w .answer .at) l t → Opened p (lookingBack p) (frameEvent s works g ∷ h) t)
   opened-further v w n c =
       record { answer = further p h s works g (w .answer); answering = w .answering; right = w .right; unlocked = w .unlocked; timely = w .timely; no-commit = n; close = c }
 
   opened-unheard : heardOn (storedAfter p h) g ≡ false → Opened p (lookingBack p) h t → Opened p (lookingBack p) (frameEvent s works g ∷ h) t
   opened-unheard x w =
       let same = further-unheard p h s works g (w .answer) x in
-      opened-further t w (subst (No commits) same (w .no-commit)) (subst (λ (l : List Heard). Close (w .answer .at) l t) same (w .close))
+      opened-further t w (subst (No Commit) same (w .no-commit)) (subst (λ (l : List Heard). Close (w .answer .at) l t) same (w .close))
 
   opened-heard : heardOn (storedAfter p h) g ≡ true → commits (message g) ≡ false → t .0 ≤ s .0 + 2000 → Opened p (lookingBack p) h s → Opened p (lookingBack p) (frameEvent s works g ∷ h) t
   opened-heard x n l w =
       let more = further-heard p h s works g (w .answer) x in
-      opened-further s w (subst (No commits) more (n, w .no-commit)) (subst (λ (q : List Heard). Close (w .answer .at) q t) more (l, w .close))
+      opened-further s w (subst (No Commit) more (said-not commits Commit (message g) refl n, w .no-commit)) (subst (λ (q : List Heard). Close (w .answer .at) q t) more (l, w .close))
 
   opened-now : heardOn (storedAfter p h) g ≡ true → message g ≡ Answer → isRight (p .serial) g ≡ true → (u : Stamp) → Pends p h u → s .0 ≤ u .0 + 2000 → t .0 ≤ s .0 + 2000 → Opened p (lookingBack p) (frameEvent s works g ∷ h) t
   unfolding heardIn

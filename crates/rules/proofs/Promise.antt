@@ -1,5 +1,5 @@
 -- The rules keep their promise. Assumes nothing.
-use mathlib.Core.Path.{sym, ap}
+use mathlib.Core.Path.{refl, sym, ap}
 use mathlib.Core.List.{List}
 use Rattle.time.specs.declared.Stamp.{Stamp}
 use Rattle.time.specs.Times.{ticksBetween}
@@ -14,7 +14,7 @@ use Rattle.rules.proofs.History.{unit-serial, unit-rating, unit-stored,
 use Rattle.rules.proofs.Starts.{bound}
 use Rattle.rules.proofs.Demand.{demand-back}
 use Rattle.rules.proofs.OneReading.{one-reading, meets-too}
-use Rattle.rules.proofs.Past.{same-event, same-history}
+use Rattle.rules.proofs.Alike.{same-event, same-history}
 use Rattle.rules.proofs.Legal.{stored-legal}
 use Rattle.rules.proofs.Identifiers.{reply-on}
 
@@ -57,6 +57,7 @@ sound p a h =
 pub promise : Promise
 promise =
     record {
+      beyond = record { reset = λ at. refl; frame = λ at storing f. refl };
       starts = starts;
       silence = meets-woken;
       unheard = unheard;

@@ -14,8 +14,8 @@ use Rattle.maintenance_pages.specs.declared.message.SerialWord.{SerialWord}
 use Rattle.maintenance_pages.specs.declared.message.Message.{Message}
 use Rattle.maintenance_pages.specs.declared.message.Message.the-variants.{Other, Unlock, Commit, Answer, SerialRequest, Read, Write}
 use Rattle.maintenance_pages.specs.Settings.{legal, valueOf}
-use Rattle.maintenance_pages.specs.Messages.{byte, message, isRight, serialReport}
-use Rattle.maintenance_pages.specs.Means.{Tells}
+use Rattle.maintenance_pages.specs.Messages.{message, isRight, serialReport}
+use Rattle.maintenance_pages.specs.Means.{firstByte, Tells}
 use Rattle.maintenance_pages.specs.Promise.{Says}
 use Rattle.maintenance_pages.proofs.Promise.{promise as maintenance}
 use Rattle.time.specs.declared.Stamp.{Stamp}
@@ -100,10 +100,10 @@ module _ (m : Monitor) (s : Session) (at : Stamp) (storing : Bool) (f : Frame) (
   else-refused c r w Other q = refl
 
   -- a read is answered by its own code
-  shows : (k : Setting) → Tells (Read k) f → framed at storing f m ≡ moves m (sessionAt at (s .draft)) (byte f 0 ∷ bytesOf Big 4 (valueOf (s .draft) k))
+  shows : (k : Setting) → Tells (Read k) f → framed at storing f m ≡ moves m (sessionAt at (s .draft)) (firstByte f ∷ bytesOf Big 4 (valueOf (s .draft) k))
   shows k t =
       says-inside (Read k) (its f .read k .1 t)
-      ∙ ap (λ (c : ℕ). moves m (sessionAt at (s .draft)) (c ∷ bytesOf Big 4 (valueOf (s .draft) k))) (sym (maintenance .coded k (byte f 0) .0 (t .1)))
+      ∙ ap (λ (c : ℕ). moves m (sessionAt at (s .draft)) (c ∷ bytesOf Big 4 (valueOf (s .draft) k))) (sym (maintenance .coded k (firstByte f) .0 (t .1)))
 
   writes : (k : Setting) (v : ℕ) → Tells (Write k v) f → framed at storing f m ≡ written k v at (s .draft) m
   writes k v t = says-inside (Write k v) (its f .write k v .1 t)

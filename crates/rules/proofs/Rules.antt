@@ -2,7 +2,7 @@
 use Prim.Native.Nat.{ℕ, _≤_}
 use mathlib.Core.Path.{_≡_, refl, sym, ap, _∙_}
 use mathlib.Core.Bool.{Bool, true, cond, _&&_}
-use mathlib.Core.List.{List}
+use mathlib.Core.List.{List, _∷_}
 use lib.Dec.{eqb, ltb}
 use borrow.Author.Tests.{lt-ltb, ltb-true}
 use native.Mathlib.Omega.{arith}
@@ -16,7 +16,8 @@ use Rattle.rules.specs.declared.unit.Monitor.{Monitor}
 use Rattle.rules.specs.declared.unit.Turn.{Turn}
 use Rattle.time.specs.Times.{later}
 use Rattle.maintenance_pages.specs.Messages.{quiet}
-use Rattle.rules.specs.Rules.{turn, silent, restart, startedWith, started, wokenBy, woken, heard, met, wasReset}
+use Rattle.rules.specs.Rules.{turn, silent, restart, startedWith, started, wokenBy, woken, heard, met, wasReset, step, unitAfter}
+use Rattle.rules.specs.Events.{Event, PowerOn}
 use Rattle.rules.specs.Promise.{UnheardChangesNothing, Fresh, Starts}
 
 -- a reset finds the same unit, silence or not
@@ -60,6 +61,10 @@ woken-heard at f m = ap (λ (k : Settings). f .extended && eqb (f .identifier) (
 pub unheard : UnheardChangesNothing
 unheard at storing f m h =
     ap (λ (t : Bool). cond t (met at storing f (woken at m)) (turn (woken at m) quiet)) (woken-heard at f m ∙ h)
+
+-- an event leaves the unit that its rule leaves
+pub unit-next : (p : PowerOn) (e : Event) (h : List Event) → unitAfter p (e ∷ h) ≡ step e (unitAfter p h) .monitor
+unit-next p e h = refl
 
 -- every start is fresh
 pub fresh : (serial : List ℕ) (rating : ℕ) (stored : Settings) (at : Stamp) → Fresh serial rating stored at (startedWith serial rating stored at)

@@ -8,13 +8,14 @@ use borrow.Author.Tests.{le-leb}
 use Rattle.words.proofs.Tests.{decided, false-true}
 use Rattle.codec_pages.specs.declared.frame.Frame.{Frame}
 use Rattle.maintenance_pages.specs.declared.setting.Setting.{Setting}
-use Rattle.maintenance_pages.specs.declared.message.Message.the-variants.{Unlock}
+use Rattle.maintenance_pages.specs.declared.message.Message.the-variants.{Unlock, Commit, Answer}
 use Rattle.maintenance_pages.specs.Messages.{message, heardOn}
 use Rattle.time.specs.declared.Stamp.{Stamp}
 use Rattle.rules.specs.Events.{Event, frameEvent, resetEvent, PowerOn}
 use Rattle.rules.specs.History.{near, timelyUnlock, inTime, unlocks, answers, commits, writes, newest, storedAfter, inSession, pendingSince, lastStart, lastWrite}
-use Rattle.rules.specs.Demand.{lookingBack, Heard, heardIn, No, hasReset, Close, lastAccepted, heardSince, Unlocked, Opened}
-use Rattle.rules.proofs.Looking.{session-unheard, pending-unheard, write-unheard, session-heard, pending-heard, write-heard, unheard-since, heard-since}
+use Rattle.rules.specs.Demand.{lookingBack, Heard, heardIn, No, hasReset, Close, heardSince, Unlocked, Opened}
+use Rattle.rules.proofs.Written.{lastAccepted}
+use Rattle.rules.proofs.Looking.{unlocks-only, answers-only, commits-only, not-said, session-unheard, pending-unheard, write-unheard, session-heard, pending-heard, write-heard, unheard-since, heard-since}
 
 -- ---- event by event since a place, where there was no reset
 
@@ -48,9 +49,9 @@ module _ (p : PowerOn) (at : Stamp) (storing : Bool) (f : Frame) (before : List 
     λ t. session-heard p at storing f before x t ∙ rw (o, m) refl,
   )
 
-  challenge-stays : Challenged here → (since : List Event) → hasReset since ≡ false → No unlocks (heardIn (lookingBack p) since here) → No answers (heardIn (lookingBack p) since here) → Challenged (since ++ here)
+  challenge-stays : Challenged here → (since : List Event) → hasReset since ≡ false → No Unlock (heardIn (lookingBack p) since here) → No Answer (heardIn (lookingBack p) since here) → Challenged (since ++ here)
   challenge-stays c =
-      since-there p here (λ since l. No unlocks l → No answers l → Challenged (since ++ here))
+      since-there p here (λ since l. No Unlock l → No Answer l → Challenged (since ++ here))
       (λ u a. c)
       (λ s works g since l x older u a.
       let c′ = older u a in (
@@ -58,9 +59,11 @@ module _ (p : PowerOn) (at : Stamp) (storing : Bool) (f : Frame) (before : List 
         λ t. session-unheard p s works g (since ++ here) x t ∙ c′ .1 t,
       ))
       (λ s works g since l x older u a.
-      let c′ = older (u .1) (a .1) in (
-        pending-heard p s works g (since ++ here) x ∙ rw (c′ .1 s, u .0, a .0) (c′ .0),
-        λ t. session-heard p s works g (since ++ here) x t ∙ rw (c′ .1 s, a .0) refl,
+      let c′ = older (u .1) (a .1) in
+      let unlock = not-said unlocks Unlock (message g) (unlocks-only (message g)) (u .0) in
+      let answer = not-said answers Answer (message g) (answers-only (message g)) (a .0) in (
+        pending-heard p s works g (since ++ here) x ∙ rw (c′ .1 s, unlock, answer) (c′ .0),
+        λ t. session-heard p s works g (since ++ here) x t ∙ rw (c′ .1 s, answer) refl,
       ))
 
   -- ---- a session lasts
@@ -75,9 +78,9 @@ module _ (p : PowerOn) (at : Stamp) (storing : Bool) (f : Frame) (before : List 
     open-for : inSession p h t ≡ true
     written : (s : Setting) → lastWrite p h s ≡ lastAccepted (p .rating) s l
 
-  session-lasts : Begins → (since : List Event) → hasReset since ≡ false → No commits (heardIn (lookingBack p) since here) → (t : Stamp) → Close at (heardIn (lookingBack p) since here) t → Lasts (since ++ here) (heardIn (lookingBack p) since here) t
+  session-lasts : Begins → (since : List Event) → hasReset since ≡ false → No Commit (heardIn (lookingBack p) since here) → (t : Stamp) → Close at (heardIn (lookingBack p) since here) t → Lasts (since ++ here) (heardIn (lookingBack p) since here) t
   session-lasts b =
-      since-there p here (λ since l. No commits l → (t : Stamp) → Close at l t → Lasts (since ++ here) l t)
+      since-there p here (λ since l. No Commit l → (t : Stamp) → Close at l t → Lasts (since ++ here) l t)
       (λ n t c. record { open-for = b .opens t c; written = b .unwritten })
       (λ s works g since l x older n t c.
       let q = older n t c in
@@ -88,7 +91,10 @@ module _ (p : PowerOn) (at : Stamp) (storing : Bool) (f : Frame) (before : List 
       (λ s works g since l x older n t c.
       let q = older (n .1) s (c .1) in
       record {
-        open-for = session-heard p s works g (since ++ here) x t ∙ (let soon : near s t ≡ true = le-leb _ _ (c .0) in rw (q .open-for, n .0, soon) refl);
+        open-for =
+            let commit = not-said commits Commit (message g) (commits-only (message g)) (n .0) in
+            let soon : near s t ≡ true = le-leb _ _ (c .0) in
+            session-heard p s works g (since ++ here) x t ∙ rw (q .open-for, commit, soon) refl;
         written = λ k. write-heard p s works g (since ++ here) x k ∙ rw (q .open-for) (ap (newest (writes (p .rating) k (message g))) (q .written k));
       })
 

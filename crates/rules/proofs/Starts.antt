@@ -25,7 +25,7 @@ left-start o x right at t before commit silence same =
     (λ c. decided (leavesOpen o x right)
     (λ l. decided (near at t)
     (λ n. same (rw (c, l, n) refl))
-    (λ n. silence l (leb-false (t .0) (at .0 + 2000) n) (rw (c, l, n) refl)))
+    (λ n. silence l (leb-false _ _ n) (rw (c, l, n) refl)))
     (λ l. same (rw (c, l) refl)))
 
 -- ---- a start is never after what is asked, and never goes back
@@ -136,8 +136,8 @@ module _ (p : PowerOn) (at : Stamp) (storing : Bool) (f : Frame) (before : List 
       start-heard p at storing f before x t ∙ kept-open (inSession p before at) (message f) right at t (lastStart p before at) open-left n
     where
       kept-open : (o′ : Bool) (y : Message) (right : Bool) (at t start : Stamp) → leavesOpen o′ y right ≡ true → at .0 + 2000 < t .0 → leavesStart o′ y right at t start ≡ later at 2000
-      kept-open true y right at t start e n = rw (not-true (commits y) e, lt-leb (t .0) (at .0 + 2000) n) refl
-      kept-open false y right at t start e n = rw (e, lt-leb (t .0) (at .0 + 2000) n) refl
+      kept-open true y right at t start e n = rw (not-true (commits y) e, lt-leb _ _ n) refl
+      kept-open false y right at t start e n = rw (e, lt-leb _ _ n) refl
 
   silence-counts : (since : List Event) → Run p (since ++ the-last) → (t : Stamp) → lastStamp p (since ++ the-last) .0 ≤ t .0 → at .0 + 2000 < t .0 → Silent (lookingBack p) (later at 2000) since the-last → at .0 + 2000 ≤ lastStart p (since ++ the-last) t .0
   unfolding storedAfter

@@ -4,19 +4,20 @@ use Prim.Native.Nat.{ℕ, _+_, _≤_, _<_}
 use mathlib.Core.Path.{_≡_}
 use mathlib.Core.Bool.{Bool, true, false, cond}
 use mathlib.Core.List.{List, [], _∷_, _++_}
-use mathlib.Core.Logic.{_↔_}
-use mathlib.Core.Option.{Option, none, Option·getD}
+use mathlib.Core.Logic.{_↔_, _⊎_}
+use mathlib.Core.Option.{Option, none, some, Option·getD}
 use Rattle.codec_pages.specs.declared.frame.Frame.{Frame}
 use Rattle.maintenance_pages.specs.declared.setting.Setting.{Setting}
 use Rattle.maintenance_pages.specs.declared.setting.Settings.{Settings}
 use Rattle.maintenance_pages.specs.declared.message.Message.{Message}
-use Rattle.maintenance_pages.specs.declared.message.Message.the-variants.{Unlock, Commit, Answer}
+use Rattle.maintenance_pages.specs.declared.message.Message.the-variants.{Unlock, Commit, Answer, Write}
 use Rattle.maintenance_pages.specs.Settings.{valueOf}
 use Rattle.maintenance_pages.specs.Messages.{message, heardOn, isRight}
+use Rattle.maintenance_pages.specs.Means.{Tells, Legal}
 use Rattle.time.specs.declared.Stamp.{Stamp}
 use Rattle.time.specs.Times.{later}
 use Rattle.rules.specs.Events.{Event, frameEvent, resetEvent, PowerOn, lastStamp, Run}
-use Rattle.rules.specs.History.{unlocks, answers, commits, writes, newest, storedAfter, inSession, lastStart}
+use Rattle.rules.specs.History.{storedAfter, inSession, lastStart}
 
 -- what is said of each history: the six stored after it; and for an event at a stamp, whether a session is open for it, and the last start before it
 pub record Reading : Type 0 where
@@ -41,10 +42,10 @@ heardIn r (resetEvent at ∷ since) before = heardIn r since before
 heardIn r (frameEvent at storing f ∷ since) before =
     cond (heardOn (r .stored (since ++ before)) f) (record { at = at; frame = f } ∷ heardIn r since before) (heardIn r since before)
 
--- nothing heard says such a thing
-abbrev pub No : (Message → Bool) → List Heard → Type 0
-No says [] = Unit
-No says (m ∷ ms) = (says (message (m .frame)) ≡ false) × No says ms
+-- no such message was heard
+abbrev pub No : Message → List Heard → Type 0
+No x [] = Unit
+No x (m ∷ ms) = (message (m .frame) ≡ x → ⊥) × No x ms
 
 -- there is a reset among the events
 abbrev pub hasReset : List Event → Bool
@@ -57,10 +58,13 @@ abbrev pub Close : Stamp → List Heard → Stamp → Type 0
 Close first [] t = t .0 ≤ first .0 + 2000
 Close first (m ∷ ms) t = (t .0 ≤ m .at .0 + 2000) × Close first ms (m .at)
 
--- the last accepted write to a setting among what was heard
-abbrev pub lastAccepted : ℕ → Setting → List Heard → Option ℕ
-lastAccepted rating s [] = none
-lastAccepted rating s (m ∷ ms) = newest (writes rating s (message (m .frame))) (lastAccepted rating s ms)
+-- the last accepted write to a setting among what was heard, if there was one: the newest message is one, a write of a legal value, or it is none and it is the
+-- last of the others
+abbrev pub LastAccepted : ℕ → Setting → List Heard → Option ℕ → Type 0
+LastAccepted rating s [] w = w ≡ none
+LastAccepted rating s (m ∷ ms) w =
+    ((v : ℕ) × ((w ≡ some v) × (Tells (Write s v) (m .frame) × Legal rating s v)))
+    ⊎ (((v : ℕ) → Tells (Write s v) (m .frame) → Legal rating s v → ⊥) × LastAccepted rating s ms w)
 
 -- ---- the session
 
@@ -86,8 +90,8 @@ pub record Unlocked (r : Reading) (h : List Event) : Type 0 where
   pub unlocking : message (unlock .frame) ≡ Unlock
   pub outside : r .session (unlock .before) (unlock .at) ≡ false
   pub timely : unlock .at .0 ≤ r .start (unlock .before) (unlock .at) .0 + 10000
-  pub no-unlock : No unlocks (heardSince r h unlock)
-  pub no-answer : No answers (heardSince r h unlock)
+  pub no-unlock : No Unlock (heardSince r h unlock)
+  pub no-answer : No Answer (heardSince r h unlock)
 
 -- "inside a session opened by a timely unlock and its timely right answer, with no reset, no earlier commit heard and no two successive heard
 -- messages over 2,000 ms apart since that answer": such a session for a message at t
@@ -97,7 +101,7 @@ pub record Opened (p : PowerOn) (r : Reading) (h : List Event) (t : Stamp) : Typ
   pub right : isRight (p .serial) (answer .frame) ≡ true
   pub unlocked : Unlocked r (answer .before)
   pub timely : answer .at .0 ≤ unlocked .unlock .at .0 + 2000
-  pub no-commit : No commits (heardSince r h answer)
+  pub no-commit : No Commit (heardSince r h answer)
   pub close : Close (answer .at) (heardSince r h answer) t
 
 -- ---- the event that stores
@@ -118,7 +122,7 @@ pub record Changes (p : PowerOn) (r : Reading) (h : List Event) (e : Event) : Ty
   -- "They change only at": where one of the six differs
   pub only : (s : Setting) → (valueOf (r .stored (e ∷ h)) s ≡ valueOf (r .stored h) s → ⊥) → Stores p r h e
   -- "Each setting then takes that session's last accepted write to it, if there was one."
-  pub takes : (w : Stores p r h e) (s : Setting) → valueOf (r .stored (e ∷ h)) s ≡ Option·getD (lastAccepted (p .rating) s (heardSince r h (w .session .answer))) (valueOf (r .stored h) s)
+  pub takes : (w : Stores p r h e) (s : Setting) (v : Option ℕ) → LastAccepted (p .rating) s (heardSince r h (w .session .answer)) v → valueOf (r .stored (e ∷ h)) s ≡ Option·getD v (valueOf (r .stored h) s)
   -- "At every other event all six stay."
   pub stays : (Stores p r h e → ⊥) → r .stored (e ∷ h) ≡ r .stored h
 

@@ -5,5 +5,5 @@ pub mod History
 pub mod Demand
 pub mod Replies
 pub mod Given
-pub mod Past
+pub mod Alike
 pub mod Promise

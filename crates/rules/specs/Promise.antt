@@ -4,12 +4,13 @@ use mathlib.Core.Path.{_≡_}
 use mathlib.Core.Bool.{Bool, true, false}
 use mathlib.Core.List.{List, _∷_}
 use Rattle.codec_pages.specs.declared.frame.Frame.{Frame}
+use Rattle.codec_pages.specs.Frames.{overLimits}
 use Rattle.maintenance_pages.specs.declared.setting.Setting.the-variants.{Speed}
 use Rattle.maintenance_pages.specs.declared.setting.Settings.{Settings}
 use Rattle.maintenance_pages.specs.declared.message.Reply.{Reply}
 use Rattle.maintenance_pages.specs.Settings.{withValue}
 use Rattle.maintenance_pages.specs.Means.{Acceptable}
-use Rattle.maintenance_pages.specs.Messages.{quiet as noReply}
+use Rattle.maintenance_pages.specs.Messages.{heardOn, quiet as noReply}
 use Rattle.time.specs.declared.Stamp.{Stamp}
 use Rattle.rules.specs.declared.unit.Session.{Session}
 use Rattle.rules.specs.declared.unit.Pending.{Pending}
@@ -18,11 +19,11 @@ use Rattle.rules.specs.declared.unit.Phase.{Phase}
 use Rattle.rules.specs.declared.unit.Phase.the-variants.{Outside, InSession}
 use Rattle.rules.specs.declared.unit.Monitor.{Monitor}
 use Rattle.time.specs.Times.{later, ticksBetween}
-use Rattle.rules.specs.Events.{Event, PowerOn, IsAccepted, lastStamp, Run}
-use Rattle.rules.specs.Rules.{turn, started, woken, heard, framed, wasReset, uptimeOf, step, unitAfter}
+use Rattle.rules.specs.Events.{Event, frameEvent, resetEvent, beyond, PowerOn, IsAccepted, lastStamp, Run}
+use Rattle.rules.specs.Rules.{turn, started, woken, framed, wasReset, uptimeOf, step, unitAfter}
 use Rattle.rules.specs.Replies.{OutsideReplies, SessionReplies}
 use Rattle.rules.specs.History.{storedAfter, inSession, lastStart, replyTo}
-use Rattle.rules.specs.Past.{AlikeEvents, AlikeHistories, SameEvent, SameHistory}
+use Rattle.rules.specs.Alike.{AlikeEvents, AlikeHistories, SameEvent, SameHistory}
 use Rattle.rules.specs.Demand.{Reading, Demand, lookingBack, Same}
 
 -- ---- rules
@@ -38,7 +39,7 @@ pub record Fresh (bytes : List ℕ) (volts : ℕ) (k : Settings) (at : Stamp) (m
 
 -- "Frames not heard get no reply", and change nothing but what silence has already changed.
 abbrev pub UnheardChangesNothing : Type 0
-UnheardChangesNothing = (at : Stamp) (storing : Bool) (f : Frame) (m : Monitor) → heard f m ≡ false → framed at storing f m ≡ turn (woken at m) noReply
+UnheardChangesNothing = (at : Stamp) (storing : Bool) (f : Frame) (m : Monitor) → heardOn (m .stored) f ≡ false → framed at storing f m ≡ turn (woken at m) noReply
 
 -- "and meets the event as locked": a frame is met as if the silence had come on its own
 abbrev pub MeetsAsWoken : Type 0
@@ -57,6 +58,11 @@ pub record Starts (m : Monitor) : Type 0 where
   pub fresh : (at : Stamp) (k : Settings) → Fresh (m .serial) (m .rating) k at (started at k m)
   pub reset : (at : Stamp) → wasReset at m ≡ turn (started at (m .stored) m) noReply
   pub silence : (s : Session) (at : Stamp) → m .phase ≡ InSession s → s .heard .0 + 2000 < at .0 → woken at m ≡ started (later (s .heard) 2000) (m .stored) m
+
+-- refusal 1 is for frames over the limits: a reset is never refused by it
+pub record Beyond : Type 0 where
+  pub reset : (at : Stamp) → beyond (resetEvent at) ≡ false
+  pub frame : (at : Stamp) (storing : Bool) (f : Frame) → beyond (frameEvent at storing f) ≡ overLimits f
 
 -- ---- what the history says
 
@@ -100,12 +106,13 @@ pub record Sound (p : PowerOn) (h : List Event) : Type 0 where
 -- ---- the promise
 
 pub record Promise : Type 0 where
+  pub beyond : Beyond
   pub starts : (m : Monitor) → Starts m
   pub silence : MeetsAsWoken
   pub unheard : UnheardChangesNothing
   pub speed : SpeedChangesNothing
-  pub outside : (m : Monitor) (pending : Pending) (at : Stamp) (storing : Bool) (f : Frame) → m .phase ≡ Outside pending → heard f m ≡ true → OutsideReplies m pending at storing f
-  pub session : (m : Monitor) (s : Session) (at : Stamp) (storing : Bool) (f : Frame) → m .phase ≡ InSession s → at .0 ≤ s .heard .0 + 2000 → heard f m ≡ true → SessionReplies m s at storing f
+  pub outside : (m : Monitor) (pending : Pending) (at : Stamp) (storing : Bool) (f : Frame) → m .phase ≡ Outside pending → heardOn (m .stored) f ≡ true → OutsideReplies m pending at storing f
+  pub session : (m : Monitor) (s : Session) (at : Stamp) (storing : Bool) (f : Frame) → m .phase ≡ InSession s → at .0 ≤ s .heard .0 + 2000 → heardOn (m .stored) f ≡ true → SessionReplies m s at storing f
   pub past-length : (e e′ : Event) → AlikeEvents e e′ → SameEvent e e′
   pub past-lengths : (p : PowerOn) (h h′ : List Event) → AlikeHistories h h′ → Run p h → SameHistory p h h′
   pub worked-out : (p : PowerOn) (h : List Event) → Run p h → WorkedOut p h

@@ -12,8 +12,8 @@ use Rattle.maintenance_pages.specs.declared.setting.Setting.{Setting}
 use Rattle.maintenance_pages.specs.declared.message.SerialWord.{SerialWord}
 use Rattle.maintenance_pages.specs.declared.message.Message.the-variants.{Unlock, Commit, Answer, SerialRequest, Read, Write}
 use Rattle.maintenance_pages.specs.Settings.{valueOf, withValue}
-use Rattle.maintenance_pages.specs.Messages.{byte, answerTo, serialReport, quiet, says}
-use Rattle.maintenance_pages.specs.Means.{Tells, Legal, serialBytes}
+use Rattle.maintenance_pages.specs.Messages.{serialReport, quiet, says}
+use Rattle.maintenance_pages.specs.Means.{firstByte, Tells, rightBytes, serialBytes, Legal}
 use Rattle.time.specs.declared.Stamp.{Stamp}
 use Rattle.rules.specs.declared.unit.Pending.{Pending}
 use Rattle.rules.specs.declared.unit.Pending.the-variants.{Nothing, Since}
@@ -37,7 +37,7 @@ NAK = 0x4E ∷ 0x41 ∷ 0x4B ∷ []
 
 -- the seven bytes after byte 0 are the challenge's, the first seven serial bytes, xored with the constants
 abbrev pub Right : Monitor → Frame → Type 0
-Right m f = part (f .bytes) 1 7 ≡ answerTo (part (m .serial) 0 7)
+Right m f = part (f .bytes) 1 7 ≡ rightBytes (m .serial)
 
 -- ---- a frame heard outside a session
 
@@ -56,7 +56,7 @@ pub record OutsideReplies (m : Monitor) (pending : Pending) (at : Stamp) (storin
 -- ---- a frame heard in a session
 
 pub record SessionReplies (m : Monitor) (s : Session) (at : Stamp) (storing : Bool) (f : Frame) : Type 0 where
-  pub read : (k : Setting) → Tells (Read k) f → framed at storing f m ≡ moves m (sessionAt at (s .draft)) (byte f 0 ∷ bytesOf Big 4 (valueOf (s .draft) k))
+  pub read : (k : Setting) → Tells (Read k) f → framed at storing f m ≡ moves m (sessionAt at (s .draft)) (firstByte f ∷ bytesOf Big 4 (valueOf (s .draft) k))
   pub write : (k : Setting) (v : ℕ) → Tells (Write k v) f → Legal (m .rating) k v → framed at storing f m ≡ moves m (sessionAt at (withValue (s .draft) k v)) ACK
   pub illegal-write : (k : Setting) (v : ℕ) → Tells (Write k v) f → (Legal (m .rating) k v → ⊥) → framed at storing f m ≡ moves m (sessionAt at (s .draft)) NAK
   pub commit : Tells Commit f → storing ≡ true → framed at storing f m ≡ turn (started at (s .draft) m) (says (m .stored .transmit) ACK)

@@ -98,7 +98,7 @@ may-hold FaultLevel v = both _ _ (at-most _ v) (at-most v _)
 shown-small : (setting : Setting) (v : ℕ) → MayHold setting v → shown setting v < 2147483648
 shown-small ReceiveId v h = omega (arith, h)
 shown-small TransmitId v h = omega (arith, h)
-shown-small Speed v h = let few = maintenance .speed-figures v in omega (arith, few)
+shown-small Speed v h = let few = maintenance .speeds .figures v in omega (arith, few)
 shown-small Voltage v h = omega (arith, h)
 shown-small WarningLevel v h = let most = h .1 in omega (arith, most)
 shown-small FaultLevel v h = let most = h .1 in omega (arith, most)

@@ -37,7 +37,7 @@ line-apart setting v w rest rest′ h h′ e =
 few-figures : (setting : Setting) (v : ℕ) → mayHold setting v ≡ true → widthOf setting + length (figuresOf setting v) + 1 ≤ longestOf setting
 few-figures ReceiveId v h = let l = hexadecimal-length 8 v in omega (arith, l)
 few-figures TransmitId v h = let l = hexadecimal-length 8 v in omega (arith, l)
-few-figures Speed v h = let l = decimal-below 2 (speedNumber v) (maintenance .speed-figures v) in omega (arith, l)
+few-figures Speed v h = let l = decimal-below 2 (speedNumber v) (maintenance .speeds .figures v) in omega (arith, l)
 few-figures Voltage v h = let b = may-hold Voltage v .0 h in let l = decimal-below 4 v (let g : v < 100000 = omega (arith, b) in g) in omega (arith, l)
 few-figures WarningLevel v h = let l = decimal-length v in omega (arith, l)
 few-figures FaultLevel v h = let l = decimal-length v in omega (arith, l)

@@ -74,13 +74,13 @@ first-figure (suc k) n a h =
     (λ t. rw t (λ e. let few = ltb-true n 10 t in omega (arith, few, a, e)))
     (λ t. rw t (λ e. first-figure k (n / 10) (let many = ltb-false n 10 t in omega (arith, many)) (omega (arith, h, pow-suc 10 (suc k))) (sym (List·getD-append (decimalUpTo k (n / 10)) ((48 + n % 10) ∷ []) 0 0 (some-figure k (n / 10))) ∙ e)))
 
-two-figures : (n : ℕ) → hexadecimal 2 n ≡ figure (n / 16 % 16) ∷ figure (n % 16) ∷ []
+hexadecimal-two : (n : ℕ) → hexadecimal 2 n ≡ figure (n / 16 % 16) ∷ figure (n % 16) ∷ []
 unfolding hexadecimal
-two-figures n = refl
+hexadecimal-two n = refl
 
-three-figures : (n : ℕ) → hexadecimal 3 n ≡ figure (n / 16 / 16 % 16) ∷ figure (n / 16 % 16) ∷ figure (n % 16) ∷ []
+hexadecimal-three : (n : ℕ) → hexadecimal 3 n ≡ figure (n / 16 / 16 % 16) ∷ figure (n / 16 % 16) ∷ figure (n % 16) ∷ []
 unfolding hexadecimal
-three-figures n = refl
+hexadecimal-three n = refl
 
 pub promise : Promise
 promise =
@@ -90,8 +90,8 @@ promise =
       hexadecimal-number = hex-number;
       decimal-number = λ n h. up-to-number 9 n (let below : n < 4294967296 = h in omega (arith, below));
       hexadecimal-width = hexadecimal-length;
-      two-figures = two-figures;
-      three-figures = three-figures;
+      hexadecimal-two = hexadecimal-two;
+      hexadecimal-three = hexadecimal-three;
       decimal-first = λ n a h. first-figure 9 n a (let below : n < 4294967296 = h in omega (arith, below));
       decimal-width = decimal-length;
       decimal-within = λ k n h. subst (λ (m : ℕ). length (decimal n) ≤ m) (sym (add-one k)) (decimal-below k n (subst (λ (m : ℕ). n < 10 ^ m) (add-one k) h));

@@ -39,8 +39,8 @@ pub record Promise : Type 0 where
   -- "eight capital hex digits"
   pub hexadecimal-width : (width n : ℕ) → length (hexadecimal width n) ≡ width
   -- two and three of them, one by one
-  pub two-figures : (n : ℕ) → hexadecimal 2 n ≡ figure (n / 16 % 16) ∷ figure (n % 16) ∷ []
-  pub three-figures : (n : ℕ) → hexadecimal 3 n ≡ figure (n / 16 / 16 % 16) ∷ figure (n / 16 % 16) ∷ figure (n % 16) ∷ []
+  pub hexadecimal-two : (n : ℕ) → hexadecimal 2 n ≡ figure (n / 16 % 16) ∷ figure (n % 16) ∷ []
+  pub hexadecimal-three : (n : ℕ) → hexadecimal 3 n ≡ figure (n / 16 / 16 % 16) ∷ figure (n / 16 % 16) ∷ figure (n % 16) ∷ []
   -- "no leading zero"
   pub decimal-first : (n : ℕ) → 1 ≤ n → n < 2 ^ 32 → getD (decimal n) 0 0 ≡ 48 → ⊥
   -- at most ten figures, and no more than a power of ten allows

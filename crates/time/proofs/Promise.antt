@@ -12,6 +12,7 @@ promise =
       equal = λ a. le-ltb a a (omega arith);
       past-means = λ a limit b. (ltb-true (a + limit) b, lt-ltb (a + limit) b);
       at-limit = λ a limit. le-ltb (a + limit) (a + limit) (omega arith);
+      later-means = λ a ms. refl;
       nine-ms = refl;
       ten-ms = refl;
       a-second = refl;

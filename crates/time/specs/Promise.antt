@@ -5,7 +5,7 @@ use mathlib.Core.Bool.{true, false}
 use mathlib.Core.Logic.{_↔_}
 use Rattle.time.specs.declared.Stamp.{Stamp}
 use Rattle.time.specs.declared.Ticks.{Ticks}
-use Rattle.time.specs.Times.{earlier, pastLimit, ticksBetween}
+use Rattle.time.specs.Times.{earlier, later, pastLimit, ticksBetween}
 
 abbrev pub inMs : ℕ → Stamp
 inMs ms = record { 0 = ms }
@@ -20,6 +20,8 @@ pub record Promise : Type 0 where
   -- "more than 2,000 ms after", "At most 10,000 ms after": the limit itself is in time
   pub past-means : (a limit b : ℕ) → pastLimit (inMs a) limit (inMs b) ≡ true ↔ a + limit < b
   pub at-limit : (a limit : ℕ) → pastLimit (inMs a) limit (inMs (a + limit)) ≡ false
+  -- a stamp so many milliseconds on
+  pub later-means : (a ms : ℕ) → later (inMs a) ms ≡ inMs (a + ms)
   -- "ticks of ten milliseconds since the last start, rounded down": of the difference, not of each stamp
   pub nine-ms : ticksBetween (inMs 1005) (inMs 1014) ≡ inTicks 0
   pub ten-ms : ticksBetween (inMs 1005) (inMs 1015) ≡ inTicks 1

@@ -19,7 +19,8 @@ use Rattle.rules.specs.declared.unit.Monitor.{Monitor}
 use Rattle.rules.specs.declared.unit.Turn.{Turn}
 use Rattle.rules.specs.Events.{Event, frameEvent, resetEvent, stampOf, beyond, PowerOn, lastStamp, Run}
 use Rattle.rules.specs.Rules.{lateAnswer, transmitId, ignored, givenUp, goesOn, outside, inside, metBy, met, woken, framed, step, unitAfter, wasReset}
-use Rattle.rules.specs.Past.{AlikeEvents, AlikeHistories, SameEvent, SameHistory}
+use Rattle.rules.specs.Alike.{AlikeEvents, AlikeHistories, SameEvent, SameHistory}
+use Rattle.rules.proofs.Rules.{unit-next}
 use Rattle.rules.proofs.History.{unit-stored, unit-reply}
 
 -- ---- a frame
@@ -73,7 +74,8 @@ same-event (frameEvent at storing f) (resetEvent at′) a = absurd a
 unit-same : (p : PowerOn) (h h′ : List Event) → AlikeHistories h h′ → unitAfter p h ≡ unitAfter p h′
 unit-same p [] [] a = refl
 unit-same p (e ∷ h) (e′ ∷ h′) (a, b) =
-    ap (λ (t : Turn). t .monitor) (same-event e e′ a .step (unitAfter p h)) ∙ ap (λ (m : Monitor). step e′ m .monitor) (unit-same p h h′ b)
+    unit-next p e h
+    ∙ (ap (λ (t : Turn). t .monitor) (same-event e e′ a .step (unitAfter p h)) ∙ (ap (λ (m : Monitor). step e′ m .monitor) (unit-same p h h′ b) ∙ sym (unit-next p e′ h′)))
 unit-same p [] (e′ ∷ h′) a = absurd a
 unit-same p (e ∷ h) [] a = absurd a
 
