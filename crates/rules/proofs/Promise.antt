@@ -12,6 +12,7 @@ use Rattle.rules.proofs.Speed.{speed-silent}
 use Rattle.rules.proofs.Replies.{outside-replies, session-replies, meets-woken}
 use Rattle.rules.proofs.History.{unit-serial, unit-rating, unit-stored, unit-session, unit-start, unit-reply}
 use Rattle.rules.proofs.Starts.{bound}
+use Rattle.rules.proofs.Written.{lastAccepted, last-there, last-one}
 use Rattle.rules.proofs.Demand.{demand-back}
 use Rattle.rules.proofs.OneReading.{one-reading, meets-too}
 use Rattle.rules.proofs.Alike.{same-event, same-history}
@@ -67,6 +68,7 @@ promise =
       past-length = same-event;
       past-lengths = same-history;
       worked-out = worked-out;
+      last-accepted = λ rating s l. (lastAccepted rating s l, (last-there rating s l, λ u a. sym (last-one rating s l u a)));
       demand-3 = demand-3;
       sound = sound;
     }

@@ -3,8 +3,10 @@ use Prim.Native.Nat.{ℕ, _+_, _<_, _≤_}
 use mathlib.Core.Path.{_≡_}
 use mathlib.Core.Bool.{Bool, true, false}
 use mathlib.Core.List.{List, _∷_}
+use mathlib.Core.Option.{Option}
 use Rattle.codec_pages.specs.declared.frame.Frame.{Frame}
 use Rattle.codec_pages.specs.Frames.{overLimits}
+use Rattle.maintenance_pages.specs.declared.setting.Setting.{Setting}
 use Rattle.maintenance_pages.specs.declared.setting.Setting.the-variants.{Speed}
 use Rattle.maintenance_pages.specs.declared.setting.Settings.{Settings}
 use Rattle.maintenance_pages.specs.declared.message.Reply.{Reply}
@@ -24,7 +26,7 @@ use Rattle.rules.specs.Rules.{turn, started, woken, framed, wasReset, up
 use Rattle.rules.specs.Replies.{OutsideReplies, SessionReplies}
 use Rattle.rules.specs.History.{storedAfter, inSession, lastStart, replyTo}
 use Rattle.rules.specs.Alike.{AlikeEvents, AlikeHistories, SameEvent, SameHistory}
-use Rattle.rules.specs.Demand.{Reading, Demand, lookingBack, Same}
+use Rattle.rules.specs.Demand.{Reading, Heard, LastAccepted, Demand, lookingBack, Same}
 
 -- ---- rules
 
@@ -93,6 +95,10 @@ pub record Demand3 (p : PowerOn) : Type 0 where
   pub alike : (r r′ : Reading) → Demand p r → ((h : List Event) → Run p h → Same p r r′ h) → Demand p r′
   pub one : (r r′ : Reading) → Demand p r → Demand p r′ → (h : List Event) → Run p h → Same p r r′ h
 
+-- whatever was heard, there is a last accepted write to a setting or there is none, and which is settled: so that what a setting takes at a commit is too
+abbrev pub OneLast : Type 0
+OneLast = (rating : ℕ) (s : Setting) (l : List Heard) → (w : Option ℕ) × (LastAccepted rating s l w × ((u : Option ℕ) → LastAccepted rating s l u → u ≡ w))
+
 -- a reply is an extended frame on the identifier, of eight bytes at most
 abbrev pub OnIdentifier : ℕ → Reply → Type 0
 OnIdentifier identifier r = r .sent ≡ true → (r .frame .extended ≡ true) × ((r .frame .identifier ≡ identifier) × (r .frame .length ≤ 8))
@@ -116,5 +122,6 @@ pub record Promise : Type 0 where
   pub past-length : (e e′ : Event) → AlikeEvents e e′ → SameEvent e e′
   pub past-lengths : (p : PowerOn) (h h′ : List Event) → AlikeHistories h h′ → Run p h → SameHistory p h h′
   pub worked-out : (p : PowerOn) (h : List Event) → Run p h → WorkedOut p h
+  pub last-accepted : OneLast
   pub demand-3 : (p : PowerOn) → Demand3 p
   pub sound : (p : PowerOn) → IsAccepted p → (h : List Event) → Sound p h
