@@ -9,11 +9,11 @@ use Rattle.log.specs.Check.{checked}
 use Rattle.listing.specs.declared.output.Rest.{Rest}
 use Rattle.listing.specs.Output.{restIn}
 use Rattle.listing.proofs.Parts.{answer-kept}
-use Rattle.replay.specs.LastWord.{wordBy, wordOn, SaidOfLog}
+use Rattle.replay.specs.LastWord.{wordBy, wordOn, WholeListing, WholeRefusal, SaidOfLog}
 
 told-by : (s : List ℕ) (n : ℕ) (over : Bool) (a : Acceptance) → restIn n s .over ≡ over → checked s ≡ a → SaidOfLog s (wordBy over a)
-told-by s n true Accepted o q = record { accepted = q; parts = n; over = o }
-told-by s n true (Refused why) o q = record { why = why; refused = q; parts = n; over = o }
+told-by s n true Accepted o q = let whole : WholeListing s = record { accepted = q; parts = n; over = o } in whole
+told-by s n true (Refused why) o q = let whole : WholeRefusal s = record { why = why; refused = q; parts = n; over = o } in whole
 told-by s n false a o q = tt
 
 pub told : (s : List ℕ) (n : ℕ) (rest : Rest) → rest ≡ restIn n s → SaidOfLog s (wordOn rest)
