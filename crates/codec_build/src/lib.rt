@@ -6,6 +6,8 @@
 //     frame    the frame with these bytes, or none
 //     report   a report built
 //     request  a request built
+#![tactic(auto)]
+
 mod body;
 mod fit;
 mod frame;

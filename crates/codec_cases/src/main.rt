@@ -1,4 +1,6 @@
 // Answers the questions of a cases file on standard input, a line for each: docs/CODEC_CASES.md has both formats.
+#![tactic(auto)]
+
 ghost use Rattle.show.specs.Lines.{Adds};
 ghost use Rattle.codec_cases.specs.Answers.{answer_line};
 

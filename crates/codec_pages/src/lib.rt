@@ -6,6 +6,8 @@
 //     rows     document 01's report table: the device kinds and its rows
 //     report   what a report says
 //     request  what a request asks
+#![tactic(auto)]
+
 pub mod frame;
 pub mod report;
 pub mod request;

@@ -3,6 +3,8 @@
 //     parts    the parts of a report in the bytes of a frame
 //     report   a frame read as a report
 //     request  a frame read as a request
+#![tactic(auto)]
+
 mod parts;
 pub mod report;
 pub mod request;

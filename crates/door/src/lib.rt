@@ -1,4 +1,6 @@
 // The door of a program: what it reads its input with, and the last word that it ends with.
+#![tactic(auto)]
+
 ghost use Rattle.std.specs.Prelude.{◌≡◌, ◌+◌, ◌≤◌, length};
 ghost use Rattle.io.specs.Counts.{IsPrefixLen};
 ghost use Rattle.door.specs.Words.{status_of};

@@ -4,6 +4,8 @@
 //     records  the records of a log met by a monitor, and their lines
 //     listing  a log replayed into a lent buffer
 //     output   what the program writes, in parts
+#![tactic(auto)]
+
 pub mod line;
 pub mod listing;
 pub mod output;

@@ -5,6 +5,8 @@
 //     record  one event
 //     check   the refusals of a log, in order
 //     view    the lent bytes and the place of the next record
+#![tactic(auto)]
+
 pub mod block;
 pub mod check;
 pub mod layout;

@@ -4,5 +4,7 @@
 //
 //     setting  the six settings
 //     message  what a frame says to the monitor, and what the monitor says back
+#![tactic(auto)]
+
 pub mod message;
 pub mod setting;

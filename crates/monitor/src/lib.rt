@@ -6,6 +6,8 @@
 //     unit     the monitor itself: given events that are within the limits and in order, it refuses nothing
 //     bench    the monitor with the last accepted stamp: power-on, events and the uptime question, and their refusals.
 //              From outside there is no other way in: the bench judges first, and only it asks the unit
+#![tactic(auto)]
+
 pub mod bench;
 mod outside;
 mod session;

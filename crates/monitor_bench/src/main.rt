@@ -1,5 +1,7 @@
 // Programs the fault level a million times, seven events a time, and prints a sum over every reply: bench/events
 // times it beside plain C.
+#![tactic(auto)]
+
 ghost use Rattle.std.specs.Prelude.{◌≡◌, ◌%◌, ◌*◌};
 ghost use Rattle.monitor_bench.specs.Sessions.{frame_on, host_frame, counts, plays, session_from, unit_on_bench};
 

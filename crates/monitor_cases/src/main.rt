@@ -1,4 +1,6 @@
 // Plays the runs of a cases file on standard input, a line for each record: docs/MONITOR_CASES.md has both formats.
+#![tactic(auto)]
+
 ghost use Rattle.std.specs.Prelude.{◌≡◌};
 ghost use Rattle.show.specs.Lines.{Adds};
 ghost use Rattle.monitor_cases.specs.Places.{holding, after_event, after_power_on};

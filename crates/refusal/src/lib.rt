@@ -1,4 +1,6 @@
 // Document 01's list of refusals. A refusal returns the number alone; state and lent memory are unchanged.
+#![tactic(auto)]
+
 ghost use Rattle.std.specs.Prelude.{◌≡◌};
 ghost use Rattle.refusal.specs.Refusals.{number_of};
 

@@ -1,4 +1,6 @@
 // Replays a closed bench log: the log on standard input, its listing or the line `refused N` on standard output.
+#![tactic(auto)]
+
 ghost use Rattle.std.specs.Prelude.{◌≡◌};
 ghost use Rattle.replay.specs.LastWord.{word_on, SaidOfLog};
 

@@ -1,5 +1,7 @@
 // Answers the log cases on standard input, as docs/LOG_CASES.md lays them out, each by its listing or a line
 // `refused N`.
+#![tactic(auto)]
+
 use door::turn::{Turn, begin, go_on, next_if};
 use door::{LastWord, write_first};
 use listing::listing::listing;

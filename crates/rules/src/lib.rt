@@ -2,4 +2,6 @@
 // here: what a monitor holds, the rules one by one, the reading that looks back over the events, and demand 3.
 //
 //     unit  what a monitor holds, and what an event leaves
+#![tactic(auto)]
+
 pub mod unit;

@@ -3,6 +3,8 @@
 //     reading  a sheet read, or the first line that is wrong
 //     writing  settings written into a lent buffer
 //     output   what the program writes: the sheet, or what was wrong
+#![tactic(auto)]
+
 pub mod output;
 pub mod reading;
 pub mod writing;

@@ -1,4 +1,6 @@
 // Answers the sheet cases on standard input, as docs/SHEET_CASES.md lays them out.
+#![tactic(auto)]
+
 ghost use Rattle.std.specs.Prelude.{◌≡◌};
 ghost use Rattle.show.specs.Lines.{Adds};
 ghost use Rattle.sheet_cases.specs.Lines.{setting_text, sheet_line, wrong_text, WrongAnswer, SheetAnswer, after_buffer, settings_asked};

@@ -3,6 +3,8 @@
 //     line     the line written, and the values that it may hold
 //     number   the number that figures stand for
 //     reading  the line looked for in bytes
+#![tactic(auto)]
+
 pub mod line;
 mod number;
 pub mod reading;

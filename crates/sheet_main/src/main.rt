@@ -1,5 +1,7 @@
 // Reads an order sheet: the sheet on standard input, the same bytes or `refused 11` and the line that is wrong on
 // standard output.
+#![tactic(auto)]
+
 ghost use Rattle.sheet_main.specs.LastWord.{SaidOfSheet};
 
 use door::LastWord;

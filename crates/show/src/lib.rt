@@ -1,5 +1,7 @@
 // A line of an answer, the way the programs that answer cases write one: it is put together first and written at
 // once, so that a program knows whether it was written.
+#![tactic(auto)]
+
 ghost use Rattle.std.specs.Prelude.{◌≡◌, [], ◌∷◌, ◌%◌};
 ghost use Rattle.text.specs.Figures.{figure as figureOf, hexadecimal, decimal as decimalFigures};
 ghost use Rattle.show.specs.Lines.{Adds, line_feed, value_text, refused_text, identifier_text, data_text, frame_text, no_line};

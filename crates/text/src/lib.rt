@@ -1,5 +1,7 @@
 // Figures and bytes into a lent buffer, from a place on. What does not fit is not written; the place is counted on all the same, so that a text can be
 // measured by putting it into a buffer that is too short. Nothing is written into a buffer any other way.
+#![tactic(auto)]
+
 ghost use Rattle.std.specs.Prelude.{◌≡◌, cond, [], ◌∷◌, ◌+◌, ◌/◌, ◌%◌, ◌<◌, leb, ltb};
 ghost use Rattle.text.specs.Figures.{figure, hexadecimal, decimal as decimalFigures};
 ghost use Rattle.text.specs.Put.{Put, place};

@@ -1,5 +1,7 @@
 // Two units of time, kept apart: milliseconds of the bench and ticks of the uptime. Stamps are compared here, and nothing
 // else turns stamps into ticks.
+#![tactic(auto)]
+
 ghost use Rattle.std.specs.Prelude.{◌≡◌};
 ghost use Rattle.time.specs.Times.{past_limit, earlier, ticks_between};
 

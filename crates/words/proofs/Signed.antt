@@ -114,7 +114,7 @@ narrowed (negsuc k) = omega arith
 
 -- a signed number that a call answered is the number that its bits stand for
 pub kept : (z : ℤ) → mag z < 2 ^ 31 → to_z w32 (of_z w32 z) ≡ z
-kept z h = to_z-of_z (record { sfits = h })
+kept z h = to_z-of_z {w = w32} (record { sfits = h })
 
 -- ---- the code's limits: tests of a number against both ends of what 16 bits hold
 

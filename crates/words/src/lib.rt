@@ -1,4 +1,6 @@
 // Bytes and numbers: words of 16 and 32 bits in either byte order, and two's complement.
+#![tactic(auto)]
+
 pub mod twos;
 pub mod word;
 
