@@ -1,7 +1,7 @@
 -- Building: a value is refused by 6 exactly when it does not fit its field in the table, or breaks the rule of 5. Assumes nothing.
 use Prim.Native.Nat.{ℕ, ◌^◌, ◌<◌, ◌≤◌}
 use mathlib.Core.Path.{◌≡◌, refl, ap, sym, ◌∙◌}
-use mathlib.Core.Bool.{Bool, true, false, not, cond, ◌&&◌, ◌||◌, and_true, or-false}
+use mathlib.Core.Bool.{Bool, true, false, not, cond, ◌&&◌, ◌||◌, and-true, or-false}
 use mathlib.Core.List.{List, [], ◌∷◌, map}
 use native.Mathlib.Omega.{arith}
 use borrow.Author.Tests.{lt-ltb, le-ltb}
@@ -40,7 +40,7 @@ use Rattle.codec_pages.proofs.Reading.{five_in, five_below}
 -- the status and the uncertainties always fit
 two_values : (x y : Field) (s p q : ℕ) (u v : ℤ) → s < 256 → p < 256 → q < 256 → all_fit (estimates_of x y) (pos s ∷ u ∷ pos p ∷ v ∷ pos q ∷ []) ≡ (fits x u && fits y v)
 two_values x y s p q u v hs hp hq =
-    rw (lt-ltb s 256 hs, lt-ltb p 256 hp, lt-ltb q 256 hq, and_true (fits y v)) refl
+    rw (lt-ltb s 256 hs, lt-ltb p 256 hp, lt-ltb q 256 hq, and-true (fits y v)) refl
 
 voltage_field : (k : Kind) (place : ℕ) (z : ℤ) → voltage_misfit k z ≡ not (fits (voltage_at k place) z)
 voltage_field Sim100 place z = refl
@@ -65,7 +65,7 @@ estimates_six k mux e lo hi h =
 
 flags_six : (k : Kind) (e : ErrorFlags) → e.status < 256 → e.flags < 65536 → (bad_status k e.status || flags_misfit k e.flags) ≡ (five_of k 0xE5 e.status || not (all_fit (flags_of k) (pos e.status ∷ pos e.flags ∷ [])))
 flags_six Sim100 e h l =
-    rw (lt-ltb e.status 256 h, and_true (ltb e.flags 256), over 256 e.flags, five_in Sim100 0xE5 e.status (lit≤ tt) (lit≤ tt)) refl
+    rw (lt-ltb e.status 256 h, and-true (ltb e.flags 256), over 256 e.flags, five_in Sim100 0xE5 e.status (lit≤ tt) (lit≤ tt)) refl
 flags_six Sim101 e h l = rw (lt-ltb e.status 256 h, lt-ltb e.flags 65536 l) refl
 
 temperature_six : (k : Kind) (z : ℤ) → is_refused (row_of k 0x80) ≡ false → holds 32 z ≡ true → false ≡ six_of k (Temperature z)

@@ -1,7 +1,7 @@
 -- A read frame builds back the same frame, except the two places that document 01 names. Assumes nothing.
 use Prim.Native.Nat.{ℕ, ◌+◌, ◌-◌, ◌≤◌}
 use mathlib.Core.Path.{◌≡◌, refl, ap, sym, subst, ◌∙◌}
-use mathlib.Core.Bool.{false, not, cond, ◌&&◌, and_false}
+use mathlib.Core.Bool.{false, not, cond, ◌&&◌, and-false}
 use mathlib.Core.List.{List, [], ◌∷◌, ◌++◌}
 use mathlib.Core.Option.{Option, some}
 use native.Mathlib.Nat.{mod-eq_of_lt}
@@ -49,7 +49,7 @@ module _ (k : Kind) (identifier : ℕ) (f : Frame) (held : HeldFrame f) (p : Pas
   rebuilt r bs place u m e n c q = rw (p.low, u, m, e, c) (joined identifier f bs place p n q)
 
   kept_whole : (n m : ℕ) → eqb m 0xE5 ≡ false → cond (is_sim100 k && eqb m 0xE5) 3 n ≡ n
-  kept_whole n m h = rw (h, and_false (is_sim100 k)) refl
+  kept_whole n m h = rw (h, and-false (is_sim100 k)) refl
 
   -- every row but E5
   whole : (r : Report) (place : ℕ) → eqb (mux_of f) 0xE5 ≡ false → place ≤ 8 → f.length ≡ place → unlisted k r ≡ false → misfit k r ≡ false → report_bytes k r ≡ part f.bytes 0 place → Rebuilt r

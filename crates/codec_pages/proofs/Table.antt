@@ -1,7 +1,7 @@
 -- The table: which rows a multiplexer is not in, and the one that it is in. Assumes nothing.
 use Prim.Native.Nat.{ℕ, zero, suc, ◌+◌, ◌-◌, ◌≤◌, ◌<◌}
 use mathlib.Core.Path.{◌≡◌, refl, ap, sym, subst, ◌∙◌}
-use mathlib.Core.Bool.{Bool, true, false, ◌&&◌, ◌||◌, and_false}
+use mathlib.Core.Bool.{Bool, true, false, ◌&&◌, ◌||◌, and-false}
 use mathlib.Core.List.{List, [], ◌∷◌, ◌++◌}
 use mathlib.Core.Option.{Option, none, some}
 use mathlib.Core.Logic.{◌⊎◌, inl, inr, ⊎_elim}
@@ -21,7 +21,7 @@ use Rattle.codec_pages.specs.Table.{Entry, entry, covers, entry_in, entry_of, as
 -- ---- covers
 
 missed : (e : Entry) (m : ℕ) → (e.last < m) ⊎ (m < e.first) → covers e m ≡ false
-missed e m (inl h) = rw (lt-leb m e.last h) (and_false (leb e.first m))
+missed e m (inl h) = rw (lt-leb m e.last h) (and-false (leb e.first m))
 missed e m (inr h) = rw (lt-leb e.first m h)
 
 refuted : (b : Bool) → (T b → ⊥) → b ≡ false
