@@ -2,7 +2,7 @@
 use refusal::Acceptance;
 
 // A frame as it came: any number may stand in any field. Bytes past the length are no part of the frame.
-#[derive(Drop)]
+#[derive(Clone, Copy)]
 pub struct Frame {
     pub length: u8,
     pub extended: bool,
@@ -11,14 +11,14 @@ pub struct Frame {
 }
 
 // What a frame carries: how many bytes, and the bytes, zero past them.
-#[derive(Drop)]
+#[derive(Clone, Copy)]
 pub struct Body {
     pub length: u8,
     pub bytes: [u8; 8],
 }
 
 // A frame that was built, or why there is none: the frame is then blank.
-#[derive(Drop)]
+#[derive(Clone, Copy)]
 pub struct Built {
     pub acceptance: Acceptance,
     pub frame: Frame,

@@ -2,7 +2,7 @@
 use refusal::Refusal;
 
 // Two values, each with its uncertainty in percent. The report says which two they are.
-#[derive(Drop)]
+#[derive(Clone, Copy)]
 pub struct Estimates {
     pub status: u8,
     pub first: u16,
@@ -12,7 +12,7 @@ pub struct Estimates {
 }
 
 // A voltage is held wide enough for both kinds: 0 to 65,535 for SIM100, -32,768 to 32,767 for SIM101.
-#[derive(Drop)]
+#[derive(Clone, Copy)]
 pub struct Voltages {
     pub status: u8,
     pub vp: i32,
@@ -22,7 +22,7 @@ pub struct Voltages {
 }
 
 // Only Vb is signed for SIM101.
-#[derive(Drop)]
+#[derive(Clone, Copy)]
 pub struct Battery {
     pub status: u8,
     pub vb: i32,
@@ -32,13 +32,13 @@ pub struct Battery {
 }
 
 // A SIM101 has 16 flags, a SIM100 eight.
-#[derive(Drop)]
+#[derive(Clone, Copy)]
 pub struct ErrorFlags {
     pub status: u8,
     pub flags: u16,
 }
 
-#[derive(Drop)]
+#[derive(Clone, Copy)]
 pub enum Report {
     // E0: electrical isolation in Ohm/V, and the energy stored in mJ.
     IsolationState(Estimates),
@@ -60,7 +60,7 @@ pub enum Report {
     WorkingVoltage(u16),
 }
 
-#[derive(Drop)]
+#[derive(Clone, Copy)]
 pub enum ReportReading {
     Read(Report),
     Refused(Refusal),

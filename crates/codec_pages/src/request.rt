@@ -1,7 +1,7 @@
 // What a request of a host asks. The multiplexers are those of the report table.
 use refusal::Refusal;
 
-#[derive(Drop)]
+#[derive(Clone, Copy)]
 pub enum Request {
     ReadIsolationState,
     ReadResistances,
@@ -15,7 +15,7 @@ pub enum Request {
     SetWorkingVoltage(u16),
 }
 
-#[derive(Drop)]
+#[derive(Clone, Copy)]
 pub enum RequestReading {
     Read(Request),
     Refused(Refusal),

@@ -1,14 +1,14 @@
 // Document 01's report table: the device kinds, its rows, and what is found in it.
 use refusal::Refusal;
 
-#[derive(Drop)]
+#[derive(Clone, Copy)]
 pub enum Kind {
     Sim100,
     Sim101,
 }
 
 // A row of the table, named by its first column.
-#[derive(Drop)]
+#[derive(Clone, Copy)]
 pub enum Row {
     MuxE0,
     MuxE1,
@@ -22,7 +22,7 @@ pub enum Row {
 }
 
 // The row with the lengths of report and request, or the refusal.
-#[derive(Drop)]
+#[derive(Clone, Copy)]
 pub enum Lookup {
     Refused(Refusal),
     Listed { row: Row, report: u8, request: u8 },

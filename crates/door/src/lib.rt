@@ -11,7 +11,7 @@ pub mod turn;
 
 // How many bytes stand at the start of a buffer, and whether a read failed. Where none failed, the input ended
 // there or the buffer is full.
-#[derive(Drop)]
+#[derive(Clone, Copy)]
 pub struct Input {
     pub n: usize,
     pub failed: bool,
@@ -60,7 +60,7 @@ pub fn write_first(text: &[u8], n: usize) -> bool {
 
 // How a program ended: all was read, answered and written; something is refused, or the answer is no; the input
 // could not be read; the output could not be written to its end.
-#[derive(Drop)]
+#[derive(Clone, Copy)]
 pub enum LastWord {
     Complete,
     Refused,

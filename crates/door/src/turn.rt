@@ -5,7 +5,7 @@ ghost use Rattle.door.specs.Turns.{begun, gone_on, next_if};
 
 use crate::{Input, LastWord};
 
-#[derive(Drop)]
+#[derive(Clone, Copy)]
 pub enum Turn {
     Next,
     Over(LastWord),

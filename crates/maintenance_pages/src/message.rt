@@ -3,7 +3,7 @@ use crate::setting::Setting;
 use codec_pages::frame::Frame;
 
 // The four words of a serial number, by their four bytes: the first is asked for by 0B, the last by 08.
-#[derive(Drop)]
+#[derive(Clone, Copy)]
 pub enum SerialWord {
     First,
     Second,
@@ -11,7 +11,7 @@ pub enum SerialWord {
     Last,
 }
 
-#[derive(Drop)]
+#[derive(Clone, Copy)]
 pub enum Message {
     Other,
     Unlock,
@@ -23,7 +23,7 @@ pub enum Message {
 }
 
 // A frame that the monitor sends. Where it sends none, the frame is blank.
-#[derive(Drop)]
+#[derive(Clone, Copy)]
 pub struct Reply {
     pub sent: bool,
     pub frame: Frame,

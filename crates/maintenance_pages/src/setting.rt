@@ -1,5 +1,5 @@
 // The six settings of document 002's table 4.
-#[derive(Drop)]
+#[derive(Clone, Copy)]
 pub enum Setting {
     ReceiveId,
     TransmitId,
@@ -10,14 +10,14 @@ pub enum Setting {
 }
 
 // The setting that a code names, if it names one.
-#[derive(Drop)]
+#[derive(Clone, Copy)]
 pub enum Named {
     Unknown,
     Known(Setting),
 }
 
 // A value for each setting, in the order of their codes.
-#[derive(Drop)]
+#[derive(Clone, Copy)]
 pub struct Settings {
     pub receive: u32,
     pub transmit: u32,

@@ -16,28 +16,28 @@ use refusal::{Acceptance, Refusal};
 use rules::unit::{Monitor, Turn};
 use time::{Stamp, Ticks, is_earlier};
 
-#[derive(Drop)]
+#[derive(Clone, Copy)]
 pub struct Bench {
     monitor: Monitor,
     last: Stamp,
 }
 
 // A power-on. Where it is refused, there is no monitor.
-#[derive(Drop)]
+#[derive(Clone, Copy)]
 pub struct PoweredOn {
     pub acceptance: Acceptance,
     pub bench: Bench,
 }
 
 // Whether an event was accepted, the bench after it, and the reply.
-#[derive(Drop)]
+#[derive(Clone, Copy)]
 pub struct Outcome {
     pub acceptance: Acceptance,
     pub bench: Bench,
     pub reply: Reply,
 }
 
-#[derive(Drop)]
+#[derive(Clone, Copy)]
 pub enum UptimeReading {
     Read(Ticks),
     Refused(Refusal),

@@ -14,7 +14,7 @@ use words::Order;
 use words::word::word32;
 
 // The bench, and the sum so far.
-#[derive(Drop)]
+#[derive(Clone, Copy)]
 struct Run {
     bench: Bench,
     sum: u64,

@@ -17,21 +17,21 @@ use refusal::Acceptance;
 use show::{Line, empty, ended, written};
 
 // The place for a monitor, and whether one is on in it.
-#[derive(Drop)]
+#[derive(Clone, Copy)]
 struct Place {
     on: bool,
     bench: Bench,
 }
 
 // The place after a record, and the record's line.
-#[derive(Drop)]
+#[derive(Clone, Copy)]
 struct Answered {
     place: Place,
     line: Line,
 }
 
 // The place after a record, and whether there is a next one.
-#[derive(Drop)]
+#[derive(Clone, Copy)]
 struct Played {
     place: Place,
     turn: Turn,

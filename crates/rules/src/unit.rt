@@ -4,26 +4,26 @@ use maintenance_pages::setting::Settings;
 use time::Stamp;
 
 // A challenge that waits for its answer, since its stamp.
-#[derive(Drop)]
+#[derive(Clone, Copy)]
 pub enum Pending {
     Nothing,
     Since(Stamp),
 }
 
 // A session: the stamp of the last heard message, and the draft.
-#[derive(Drop)]
+#[derive(Clone, Copy)]
 pub struct Session {
     pub heard: Stamp,
     pub draft: Settings,
 }
 
-#[derive(Drop)]
+#[derive(Clone, Copy)]
 pub enum Phase {
     Outside(Pending),
     InSession(Session),
 }
 
-#[derive(Drop)]
+#[derive(Clone, Copy)]
 pub struct Monitor {
     pub serial: [u8; 16],
     pub rating: u16,
@@ -33,7 +33,7 @@ pub struct Monitor {
 }
 
 // What an event leaves: the monitor, and its reply.
-#[derive(Drop)]
+#[derive(Clone, Copy)]
 pub struct Turn {
     pub monitor: Monitor,
     pub reply: Reply,

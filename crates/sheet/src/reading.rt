@@ -7,14 +7,14 @@ use refusal::Refusal;
 use sheet_line::reading::read_line;
 
 // The settings of a sheet, or the first line that is wrong, counted from 1.
-#[derive(Drop)]
+#[derive(Clone, Copy)]
 pub enum Judged {
     Sheet(Settings),
     Wrong(u8),
 }
 
 // The settings of a sheet, or why the bytes are none.
-#[derive(Drop)]
+#[derive(Clone, Copy)]
 pub enum SheetRead {
     Settings(Settings),
     Refused(Refusal),

@@ -7,7 +7,7 @@ use crate::number::value_in;
 use maintenance_pages::setting::Setting;
 
 // A line as it was looked for: whether it is there, its value, and the place after it. Where it is not there, the value is the least that it may hold.
-#[derive(Drop)]
+#[derive(Clone, Copy)]
 pub struct Line {
     pub right: bool,
     pub value: u32,

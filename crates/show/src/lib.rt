@@ -12,7 +12,7 @@ use text::hex_figure;
 
 // The bytes of the line and how many there are. None of the answers is longer than this; of one that was, no byte
 // is written.
-#[derive(Drop)]
+#[derive(Clone, Copy)]
 pub struct Line {
     pub bytes: [u8; 160],
     pub n: usize,

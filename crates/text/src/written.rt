@@ -6,7 +6,7 @@ use crate::{byte, bytes, decimal};
 use refusal::Refusal;
 
 // The length of the text, or why there is none.
-#[derive(Drop)]
+#[derive(Clone, Copy)]
 pub enum Written {
     Text(usize),
     Refused(Refusal),

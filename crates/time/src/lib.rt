@@ -6,11 +6,11 @@ ghost use Rattle.std.specs.Prelude.{◌≡◌};
 ghost use Rattle.time.specs.Times.{past_limit, earlier, ticks_between};
 
 // A moment on the bench's clock, in milliseconds.
-#[derive(Drop)]
+#[derive(Clone, Copy)]
 pub struct Stamp(pub u32);
 
 // A span of the uptime, in ticks of ten milliseconds.
-#[derive(Drop)]
+#[derive(Clone, Copy)]
 pub struct Ticks(pub u32);
 
 pub fn is_earlier(at: Stamp, other: Stamp) -> bool

@@ -5,7 +5,7 @@ pub mod twos;
 pub mod word;
 
 // Which byte of a word comes first: the most significant, or the least.
-#[derive(Drop)]
+#[derive(Clone, Copy)]
 pub enum Order {
     Big,
     Little,
