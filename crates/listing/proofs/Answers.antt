@@ -16,10 +16,10 @@ use Rattle.text.specs.Put.{Put, place, last_place}
 use Rattle.text.specs.Written.{Fitted}
 use Rattle.text.proofs.Put.{place_within}
 use Rattle.text.proofs.Fitted.{short_refused as too_short, text_written, text_not_refused, refused_same as fitted-same}
-use Rattle.log.specs.Layout.{count_of}
-use Rattle.log.specs.Check.{checked}
-use Rattle.log.proofs.Parts.{laid_out}
-use Rattle.log.proofs.Runs.{sound}
+use Rattle.bench_log.specs.Layout.{count_of}
+use Rattle.bench_log.specs.Check.{checked}
+use Rattle.bench_log.proofs.Parts.{laid_out}
+use Rattle.bench_log.proofs.Runs.{sound}
 use Rattle.listing.specs.Listing.{listing_of, is_short, answer_by, AnsweredBy, ListingAnswered}
 use Rattle.listing.proofs.Bounds.{listing_length}
 

@@ -6,10 +6,10 @@ use Rattle.codec_pages.specs.Requests.{read_request}
 use Rattle.maintenance_pages.specs.Messages.{message}
 use Rattle.rules.specs.History.{stored_after}
 use Rattle.text.specs.Figures.{hexadecimal, decimal_up_to}
-use Rattle.log.specs.Layout.{is_laid_out}
-use Rattle.log.specs.Block.{block_in, is_legal}
-use Rattle.log.specs.Record.{record_in, zeros, is_record}
-use Rattle.log.specs.Check.{history_of, records_acceptance}
+use Rattle.bench_log.specs.Layout.{is_laid_out}
+use Rattle.bench_log.specs.Block.{block_in, is_legal}
+use Rattle.bench_log.specs.Record.{record_in, zeros, is_record}
+use Rattle.bench_log.specs.Check.{history_of, records_acceptance}
 use Rattle.listing.specs.Lines.{spaced}
 use Rattle.listing.specs.Listing.{lines_of, listing_of}
 use Rattle.marked.specs.Marked.{Marked}

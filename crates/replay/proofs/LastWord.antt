@@ -5,7 +5,7 @@ use mathlib.Core.Bool.{Bool, true, false}
 use mathlib.Core.List.{List}
 use Rattle.refusal.specs.declared.Acceptance.{Acceptance}
 use Rattle.refusal.specs.declared.Acceptance.TheVariants.{Accepted, Refused}
-use Rattle.log.specs.Check.{checked}
+use Rattle.bench_log.specs.Check.{checked}
 use Rattle.listing.specs.declared.output.Rest.{Rest}
 use Rattle.listing.specs.Output.{rest_in}
 use Rattle.listing.proofs.Parts.{answer_kept}

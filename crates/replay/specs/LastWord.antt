@@ -6,7 +6,7 @@ use Rattle.refusal.specs.declared.Acceptance.TheVariants.{Accepted, Refused}
 use Rattle.refusal.specs.declared.Refusal.{Refusal}
 use Rattle.door.specs.declared.LastWord.{LastWord}
 use Rattle.door.specs.declared.LastWord.TheVariants.{Complete, Refused as No, Unread, Cut}
-use Rattle.log.specs.Check.{checked}
+use Rattle.bench_log.specs.Check.{checked}
 use Rattle.listing.specs.declared.output.Rest.{Rest}
 use Rattle.listing.specs.Output.{rest_in}
 
