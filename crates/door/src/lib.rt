@@ -5,6 +5,8 @@ ghost use Rattle.std.specs.Prelude.{◌≡◌, ◌+◌, ◌≤◌, length};
 ghost use Rattle.io.specs.Counts.{IsPrefixLen};
 ghost use Rattle.door.specs.Words.{status_of};
 
+use std::io::Read;
+
 pub mod turn;
 
 // ---- in
@@ -17,23 +19,23 @@ pub struct Input {
     pub failed: bool,
 }
 
-fn read_once(buf: &mut [u8]) -> Input
+fn read_once<R: Read>(from: &mut R, buf: &mut [u8]) -> Input
     ensures { result.n ≤ length buf.old }
 {
-    let got = libc::read(0, buf);
-    Input {
-        n: io::count(got, buf),
-        failed: got < 0,
+    match from.read(buf) {
+        Ok(n) => Input { n, failed: false },
+        Err(_) => Input { n: 0, failed: true },
     }
 }
 
-// Standard input, until it ends, the buffer is full or a read fails. A read that fails is not the end of the input.
-pub fn read_input(buf: &mut [u8]) -> Input
+// What a reader gives, a program's standard input, until it ends, the buffer is full or a read fails. A read that
+// fails is not the end of the input.
+pub fn read_input<R: Read>(from: &mut R, buf: &mut [u8]) -> Input
     ensures { IsPrefixLen result.n buf.new }
 {
     let mut n = 0;
     while n < buf.len() {
-        let one = read_once(&mut buf[n..]);
+        let one = read_once(from, &mut buf[n..]);
         if one.failed {
             return Input { n, failed: true };
         }
