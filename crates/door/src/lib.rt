@@ -1,7 +1,8 @@
 // The door of a program: what it reads its input with, and the last word that it ends with.
 #![tactic(auto)]
 
-ghost use Rattle.std.specs.Prelude.{◌≡◌, ◌+◌, ◌≤◌, length};
+ghost use Rattle.std.specs.Prelude.{◌≡◌, ◌+◌, ◌<◌, ◌≤◌, false, length, take, true};
+ghost use Rattle.std.specs.Io.KnownBytes.{Consumes, IsAtEnd};
 ghost use Rattle.io.specs.Counts.{IsPrefixLen};
 ghost use Rattle.door.specs.Words.{status_of};
 
@@ -20,7 +21,10 @@ pub struct Input {
 }
 
 fn read_once<R: Read>(from: &mut R, buf: &mut [u8]) -> Input
-    ensures { result.n ≤ length buf.old }
+    ensures bound { result.n ≤ length buf.old }
+    ensures bytes { Consumes (R.remaining from.old) (R.remaining from.new) (take result.n buf.new) }
+    ensures none { result.failed ≡ true → result.n ≡ 0 }
+    ensures end { result.failed ≡ false → result.n ≡ 0 → 0 < length buf.new → IsAtEnd (R.remaining from.new) }
 {
     match from.read(buf) {
         Ok(n) => Input { n, failed: false },
@@ -31,7 +35,9 @@ fn read_once<R: Read>(from: &mut R, buf: &mut [u8]) -> Input
 // What a reader gives, a program's standard input, until it ends, the buffer is full or a read fails. A read that
 // fails is not the end of the input.
 pub fn read_input<R: Read>(from: &mut R, buf: &mut [u8]) -> Input
-    ensures { IsPrefixLen result.n buf.new }
+    ensures bound { IsPrefixLen result.n buf.new }
+    ensures bytes { Consumes (R.remaining from.old) (R.remaining from.new) (take result.n buf.new) }
+    ensures end { result.failed ≡ false → result.n < length buf.new → IsAtEnd (R.remaining from.new) }
 {
     let mut n = 0;
     while n < buf.len() {
