@@ -8,4 +8,3 @@ pub mod Blocks
 pub mod Logs
 pub mod Told
 pub mod Promise
-pub mod Views
