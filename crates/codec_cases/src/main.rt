@@ -14,6 +14,7 @@ use codec_read::request::read_request;
 use door::LastWord;
 use door::turn::{Turn, begin, next_if};
 use show::{Line, empty, written};
+use std::io::Stdin;
 
 // The question of a record put to the codec, and its answer at the end of a line.
 fn answer(l: Line, r: [u8; 20]) -> Line
@@ -38,9 +39,9 @@ fn answer_known(r: [u8; 20]) -> Turn {
 }
 
 // A record is read and answered, up to one that asks nothing known.
-fn answer_next() -> Turn {
+fn answer_next(stdin: &mut Stdin) -> Turn {
     let mut r = [0u8; 20];
-    let input = door::read_input(&mut r);
+    let input = door::read_input(stdin, &mut r);
     let turn = begin(input, 20);
     match turn {
         Turn::Next => answer_known(r),
@@ -48,10 +49,11 @@ fn answer_next() -> Turn {
     }
 }
 
-fn main() {
+fn main(rt: HostRuntime) {
+    let mut stdin = rt.stdin();
     let mut turns: u64 = 0xFFFFFFFFFFFFFFFF;
     while turns > 0 {
-        let turn = answer_next();
+        let turn = answer_next(&mut stdin);
         match turn {
             Turn::Next => {}
             Turn::Over(word) => {

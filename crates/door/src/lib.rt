@@ -1,9 +1,12 @@
 // The door of a program: what it reads its input with, and the last word that it ends with.
 #![tactic(auto)]
 
-ghost use Rattle.std.specs.Prelude.{◌≡◌, ◌+◌, ◌≤◌, length};
+ghost use Rattle.std.specs.Prelude.{◌≡◌, ◌+◌, ◌<◌, ◌≤◌, false, length, take, true};
+ghost use Rattle.std.specs.Io.KnownBytes.{Consumes, IsAtEnd};
 ghost use Rattle.io.specs.Counts.{IsPrefixLen};
 ghost use Rattle.door.specs.Words.{status_of};
+
+use std::io::Read;
 
 pub mod turn;
 
@@ -17,23 +20,28 @@ pub struct Input {
     pub failed: bool,
 }
 
-fn read_once(buf: &mut [u8]) -> Input
-    ensures { result.n ≤ length buf.old }
+fn read_once<R: Read>(from: &mut R, buf: &mut [u8]) -> Input
+    ensures bound { result.n ≤ length buf.old }
+    ensures bytes { Consumes (R.remaining from.old) (R.remaining from.new) (take result.n buf.new) }
+    ensures none { result.failed ≡ true → result.n ≡ 0 }
+    ensures end { result.failed ≡ false → result.n ≡ 0 → 0 < length buf.new → IsAtEnd (R.remaining from.new) }
 {
-    let got = libc::read(0, buf);
-    Input {
-        n: io::count(got, buf),
-        failed: got < 0,
+    match from.read(buf) {
+        Ok(n) => Input { n, failed: false },
+        Err(_) => Input { n: 0, failed: true },
     }
 }
 
-// Standard input, until it ends, the buffer is full or a read fails. A read that fails is not the end of the input.
-pub fn read_input(buf: &mut [u8]) -> Input
-    ensures { IsPrefixLen result.n buf.new }
+// What a reader gives, a program's standard input, until it ends, the buffer is full or a read fails. A read that
+// fails is not the end of the input.
+pub fn read_input<R: Read>(from: &mut R, buf: &mut [u8]) -> Input
+    ensures bound { IsPrefixLen result.n buf.new }
+    ensures bytes { Consumes (R.remaining from.old) (R.remaining from.new) (take result.n buf.new) }
+    ensures end { result.failed ≡ false → result.n < length buf.new → IsAtEnd (R.remaining from.new) }
 {
     let mut n = 0;
     while n < buf.len() {
-        let one = read_once(&mut buf[n..]);
+        let one = read_once(from, &mut buf[n..]);
         if one.failed {
             return Input { n, failed: true };
         }

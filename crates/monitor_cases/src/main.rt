@@ -15,6 +15,7 @@ use maintenance::message::answer_to;
 use monitor::bench::{Bench, Outcome, PoweredOn, no_bench, uptime};
 use refusal::Acceptance;
 use show::{Line, empty, ended, written};
+use std::io::Stdin;
 
 // The place for a monitor, and whether one is on in it.
 #[derive(Clone, Copy)]
@@ -137,9 +138,9 @@ fn write_line(a: Answered) -> Played {
 }
 
 // A power-on goes on past the first twenty bytes.
-fn next_power_on(p: Place, r: [u8; 20]) -> Played {
+fn next_power_on(p: Place, r: [u8; 20], stdin: &mut Stdin) -> Played {
     let mut rest = [0u8; 28];
-    let input = door::read_input(&mut rest);
+    let input = door::read_input(stdin, &mut rest);
     let turn = go_on(input, 28);
     match turn {
         Turn::Next => write_line(power_on(empty(), p, record::powered_on(r, rest))),
@@ -147,14 +148,14 @@ fn next_power_on(p: Place, r: [u8; 20]) -> Played {
     }
 }
 
-fn answer_record(p: Place, r: [u8; 20]) -> Played {
+fn answer_record(p: Place, r: [u8; 20], stdin: &mut Stdin) -> Played {
     let kind = r[4];
     match kind {
         3 => write_line(Answered {
             place: p,
             line: question(empty(), p, r),
         }),
-        4 => next_power_on(p, r),
+        4 => next_power_on(p, r, stdin),
         5 => write_line(Answered {
             place: p,
             line: line::answer(empty(), answer_to(record::challenge(r))),
@@ -163,32 +164,33 @@ fn answer_record(p: Place, r: [u8; 20]) -> Played {
     }
 }
 
-fn answer_known(p: Place, r: [u8; 20]) -> Played {
+fn answer_known(p: Place, r: [u8; 20], stdin: &mut Stdin) -> Played {
     if record::known(r) {
-        return answer_record(p, r);
+        return answer_record(p, r, stdin);
     }
     over(p, LastWord::Refused)
 }
 
 // A record is read and answered, up to one that asks nothing known.
-fn answer_next(p: Place) -> Played {
+fn answer_next(p: Place, stdin: &mut Stdin) -> Played {
     let mut r = [0u8; 20];
-    let input = door::read_input(&mut r);
+    let input = door::read_input(stdin, &mut r);
     let turn = begin(input, 20);
     match turn {
-        Turn::Next => answer_known(p, r),
+        Turn::Next => answer_known(p, r, stdin),
         Turn::Over(word) => over(p, word),
     }
 }
 
-fn main() {
+fn main(rt: HostRuntime) {
+    let mut stdin = rt.stdin();
     let mut p = Place {
         on: false,
         bench: no_bench(),
     };
     let mut turns: u64 = 0xFFFFFFFFFFFFFFFF;
     while turns > 0 {
-        let q = answer_next(p);
+        let q = answer_next(p, &mut stdin);
         let turn = q.turn;
         match turn {
             Turn::Next => {}

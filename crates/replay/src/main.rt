@@ -47,9 +47,10 @@ fn write_parts(s: &[u8], text: &mut [u8]) -> LastWord
 
 // One byte more than the longest log is read, and the buffer for the text holds every part. Nothing is written of
 // an input that could not be read.
-fn main() {
+fn main(rt: HostRuntime) {
+    let mut stdin = rt.stdin();
     let mut log = [0; 64161];
-    let input = door::read_input(&mut log);
+    let input = door::read_input(&mut stdin, &mut log);
     if input.failed {
         door::close(LastWord::Unread);
         return;

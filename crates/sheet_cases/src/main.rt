@@ -12,6 +12,7 @@ use refusal::Refusal;
 use sheet::reading::{Judged, SheetRead, judge, read};
 use sheet::writing::write;
 use show::{Line, ended, written};
+use std::io::Stdin;
 use text::written::Written;
 use words::Order;
 use words::word::{word16, word32};
@@ -61,8 +62,8 @@ fn answer_read(l: Line, s: &[u8]) -> Line
 }
 
 // The bytes of a case are read and answered.
-fn next_bytes(s: &mut [u8]) -> Turn {
-    let input = door::read_input(s);
+fn next_bytes(stdin: &mut Stdin, s: &mut [u8]) -> Turn {
+    let input = door::read_input(stdin, s);
     let turn = go_on(input, s.len());
     match turn {
         Turn::Next => next_if(written(answer_read(show::empty(), s))),
@@ -70,19 +71,23 @@ fn next_bytes(s: &mut [u8]) -> Turn {
     }
 }
 
-fn next_length(length: usize, longest: &mut [u8]) -> Turn {
+fn next_length(stdin: &mut Stdin, length: usize, longest: &mut [u8]) -> Turn {
     if longest.len() < length {
         return Turn::Over(LastWord::Refused);
     }
-    next_bytes(&mut longest[..length])
+    next_bytes(stdin, &mut longest[..length])
 }
 
-fn next_read(longest: &mut [u8]) -> Turn {
+fn next_read(stdin: &mut Stdin, longest: &mut [u8]) -> Turn {
     let mut head = [0; 2];
-    let input = door::read_input(&mut head);
+    let input = door::read_input(stdin, &mut head);
     let turn = go_on(input, 2);
     match turn {
-        Turn::Next => next_length(word16(Order::Big, head[0], head[1]) as usize, longest),
+        Turn::Next => next_length(
+            stdin,
+            word16(Order::Big, head[0], head[1]) as usize,
+            longest,
+        ),
         Turn::Over(word) => Turn::Over(word),
     }
 }
@@ -133,9 +138,9 @@ fn next_room(r: [u8; 26]) -> Turn {
     next_if(answer_written(settings_in(r), &mut stops[..room]))
 }
 
-fn next_written() -> Turn {
+fn next_written(stdin: &mut Stdin) -> Turn {
     let mut r = [0; 26];
-    let input = door::read_input(&mut r);
+    let input = door::read_input(stdin, &mut r);
     let turn = go_on(input, 26);
     match turn {
         Turn::Next => next_room(r),
@@ -145,31 +150,32 @@ fn next_written() -> Turn {
 
 // ---- each case
 
-fn next_kind(kind: u8, longest: &mut [u8]) -> Turn {
+fn next_kind(stdin: &mut Stdin, kind: u8, longest: &mut [u8]) -> Turn {
     match kind {
-        0 => next_read(longest),
-        1 => next_written(),
+        0 => next_read(stdin, longest),
+        1 => next_written(stdin),
         _ => Turn::Over(LastWord::Refused),
     }
 }
 
 // A case is read and answered, up to one that asks nothing known.
-fn answer_next(longest: &mut [u8]) -> Turn {
+fn answer_next(stdin: &mut Stdin, longest: &mut [u8]) -> Turn {
     let mut kind = [0; 1];
-    let input = door::read_input(&mut kind);
+    let input = door::read_input(stdin, &mut kind);
     let turn = begin(input, 1);
     match turn {
-        Turn::Next => next_kind(kind[0], longest),
+        Turn::Next => next_kind(stdin, kind[0], longest),
         Turn::Over(word) => Turn::Over(word),
     }
 }
 
-fn main() {
+fn main(rt: HostRuntime) {
+    let mut stdin = rt.stdin();
     let mut bytes = [0; 4095];
     let longest: &mut [u8] = &mut bytes;
     let mut turns: u64 = 0xFFFFFFFFFFFFFFFF;
     while turns > 0 {
-        let turn = answer_next(longest);
+        let turn = answer_next(&mut stdin, longest);
         match turn {
             Turn::Next => {}
             Turn::Over(word) => {

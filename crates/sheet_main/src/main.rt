@@ -33,9 +33,10 @@ fn write_output(s: &[u8], text: &mut [u8]) -> LastWord
 
 // One byte more than the longest sheet is read, and nothing that is written is longer than the buffer. Nothing is
 // written of an input that could not be read.
-fn main() {
+fn main(rt: HostRuntime) {
+    let mut stdin = rt.stdin();
     let mut bytes = [0; 85];
-    let input = door::read_input(&mut bytes);
+    let input = door::read_input(&mut stdin, &mut bytes);
     if input.failed {
         door::close(LastWord::Unread);
         return;
