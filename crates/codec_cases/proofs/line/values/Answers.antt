@@ -29,7 +29,7 @@ pub returns-in-Word : goal.returns-in-Word
 returns-in-Word c = rw c.in-Word.is (and c.hex2.ensures c.value.ensures)
 
 pub returns-in-Temperature : goal.returns-in-Temperature
-returns-in-Temperature c = rw c.in-Temperature.is (and c.text-in-Temperature.ensures (adds_as (ap signed_text (c.pattern32.ensures ∙ ap (pattern_of 32) (kept c.r-in-Temperature-1.given.0.0 (search rules)))) c.signed.ensures))
+returns-in-Temperature c = rw c.in-Temperature.is (and c.text-in-Temperature.ensures (adds_as (ap signed_text (c.pattern32.ensures ∙ ap (pattern_of 32) (kept c.in-Temperature.z (search rules)))) c.signed.ensures))
 
 pub returns-in-WorkingVoltage : goal.returns-in-WorkingVoltage
 returns-in-WorkingVoltage c = rw c.in-WorkingVoltage.is (and c.text-in-WorkingVoltage.ensures c.value-in-WorkingVoltage.ensures)
