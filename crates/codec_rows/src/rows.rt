@@ -33,6 +33,7 @@ fn listed(row: Row, report: u8, request: u8) -> Lookup
     }
 }
 
+#[tactic(auto, using(crate::proofs::Ranges::rows))]
 fn sim100_row(mux: u8) -> Lookup
     ensures { result ≡ row_of Kind.Sim100 mux }
 {
@@ -44,6 +45,7 @@ fn sim100_row(mux: u8) -> Lookup
     }
 }
 
+#[tactic(auto, using(crate::proofs::Ranges::rows))]
 fn sim101_row(mux: u8) -> Lookup
     ensures { result ≡ row_of Kind.Sim101 mux }
 {

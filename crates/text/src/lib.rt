@@ -183,6 +183,7 @@ fn last_four(out: &mut [u8], at: usize, n: u32) -> usize
 }
 
 // A number of at most four figures.
+#[tactic(auto, using(crate::proofs::Figures::one_figure))]
 fn few(out: &mut [u8], at: usize, n: u32) -> usize
     requires { n < 10000 }
     ensures { Put out.old at (decimalFigures n) result out.new }
