@@ -1,2 +1,3 @@
 -- Laws of the door.
+pub mod Turns
 pub mod Reading
