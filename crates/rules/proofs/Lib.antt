@@ -1,4 +1,5 @@
 -- The laws of the rules and of the reading of histories, and the proofs of what they promise.
+pub mod Computes
 pub mod Rules
 pub mod Speed
 pub mod Replies
