@@ -1,0 +1,11 @@
+-- `codec_cases::line::voltages` meets its contract: one value after another. Assumes nothing.
+use Rattle.show.proofs.Adding.{and, adds_as}
+use Rattle.words.proofs.Signed.{kept}
+use Rattle.words.specs.Signed.{pattern_of}
+use Rattle.codec_cases.specs.Lines.{signed_text}
+use mathlib.Core.Path.{ap, ◌∙◌}
+use borrow.Author.Rules.{rules}
+use Rattle.codec_cases.proofs.line.voltages.Goals as goal
+
+pub returns : goal.returns
+returns c = and c.value-a.ensures (and (adds_as (ap signed_text (c.pattern32.ensures ∙ ap (pattern_of 32) (kept c.args.v.vp (search rules)))) c.signed.ensures) (and c.value-b.ensures (and (adds_as (ap signed_text (c.pattern32-2.ensures ∙ ap (pattern_of 32) (kept c.args.v.vn (search rules)))) c.signed-2.ensures) c.value.ensures)))
