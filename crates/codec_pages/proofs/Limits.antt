@@ -1,7 +1,6 @@
 -- The limits of a frame in plain numbers. Assumes nothing.
 use Prim.Native.Nat.{ℕ, ◌<◌, ◌≤◌}
 use mathlib.Core.Path.{sym, ◌∙◌}
-use mathlib.Core.Bool.{not}
 use mathlib.Core.Logic.Iff
 use mathlib.Core.Logic.{inl, inr}
 use lib.Dec.{ltb}

@@ -14,7 +14,7 @@ use Rattle.words.specs.declared.Order.TheVariants.{Big}
 use Rattle.words.specs.Words.{word_of}
 use Rattle.maintenance_pages.specs.declared.message.Message.{Message}
 use Rattle.maintenance_pages.specs.declared.message.Message.TheVariants.{Other, Unlock, Commit, Answer, SerialRequest, Read, Write}
-use Rattle.maintenance_pages.specs.Messages.{byte, message, same_seven, challenge_of, answer_to}
+use Rattle.maintenance_pages.specs.Messages.{byte, same_seven, challenge_of, answer_to}
 use Rattle.maintenance_pages.specs.Means.{Begins, Coded, AsksFor, Tells}
 use Rattle.maintenance_pages.specs.Promise.{PastLength}
 use Rattle.maintenance_pages.proofs.Told.{same_told}

@@ -17,7 +17,7 @@ use Rattle.rules.specs.declared.unit.Phase.{Phase}
 use Rattle.rules.specs.declared.unit.Phase.TheVariants.{Outside, InSession}
 use Rattle.rules.specs.declared.unit.Monitor.{Monitor}
 use Rattle.rules.specs.declared.unit.Turn.{Turn}
-use Rattle.rules.specs.Events.{Event, frame_event, reset_event, stamp_of, beyond, PowerOn, last_stamp, Run}
+use Rattle.rules.specs.Events.{Event, frame_event, reset_event, stamp_of, PowerOn, last_stamp, Run}
 use Rattle.rules.specs.Rules.{late_answer, transmit_id, ignored, given_up, goes_on, outside, inside, met_by, met, woken, framed, step, unit_after, was_reset}
 use Rattle.rules.specs.Alike.{AlikeEvents, AlikeHistories, SameEvent, SameHistory}
 use Rattle.rules.proofs.Rules.{unit_next}

@@ -14,7 +14,6 @@ use Rattle.rules.specs.declared.unit.Phase.{Phase}
 use Rattle.rules.specs.declared.unit.Phase.TheVariants.{Outside, InSession}
 use Rattle.rules.specs.declared.unit.Monitor.{Monitor}
 use Rattle.rules.specs.declared.unit.Turn.{Turn}
-use Rattle.time.specs.Times.{later}
 use Rattle.maintenance_pages.specs.Messages.{quiet}
 use Rattle.rules.specs.Rules.{turn, silent, restart, started_with, started, woken_by, woken, heard, met, was_reset, step, unit_after}
 use Rattle.rules.specs.Events.{Event, PowerOn}

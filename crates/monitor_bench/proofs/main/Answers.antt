@@ -1,5 +1,4 @@
 -- `monitor_bench::main` ends: the turns that are left fall. Assumes nothing.
-use Prim.Native.Nat.{◌-◌}
 use native.Mathlib.Omega.{arith}
 use Rattle.monitor_bench.proofs.main.Goals as goal
 

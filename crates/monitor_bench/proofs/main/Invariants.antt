@@ -1,6 +1,5 @@
 -- `monitor_bench::main` ends: the turns that are left fall. Assumes nothing.
 use Prim.Native.Nat.{◌-◌}
-use native.Mathlib.Omega.{arith}
 use Rattle.monitor_bench.proofs.main.Given as goal
 
 abbrev pub invariant-loop-turn : goal.invariant-loop-turn

@@ -1,5 +1,4 @@
 -- `monitor_cases::main` ends: the turns that are left fall. Assumes nothing.
-use native.Mathlib.Omega.{arith}
 use Rattle.monitor_cases.proofs.main.Given as goal
 
 abbrev pub invariant-loop-turns : goal.invariant-loop-turns

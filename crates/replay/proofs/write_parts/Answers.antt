@@ -1,9 +1,8 @@
 -- `replay::write_parts` meets its contract: the loop holds what is left after so many parts. Assumes nothing.
 use native.Mathlib.Omega.{arith}
 use native.Mathlib.Numerals.{add-one}
-use Prim.Native.Nat.{ℕ, ◌-◌}
-use mathlib.Core.Path.{◌≡◌, refl, ap, sym, ◌∙◌}
-use lib.ListN.{length}
+use Prim.Native.Nat.{ℕ}
+use mathlib.Core.Path.{refl, ap, sym, ◌∙◌}
 use Rattle.text.proofs.Put.{kept_length}
 use Rattle.listing.specs.Output.{rest_after, rest_in}
 use Rattle.listing.proofs.Promise.{promise as listing}

@@ -1,11 +1,7 @@
 -- `text::bytes` meets its contract: the bytes so far were put. Assumes nothing.
-use native.Mathlib.Omega.{arith}
 use Prim.Native.Nat.{◌-◌, ◌≤◌}
-use mathlib.Core.Path.{sym}
 use lib.ListN.{length, take}
-use lib.Seq.{take_all}
 use Rattle.text.specs.Put.{Put}
-use Rattle.text.proofs.Put.{nothing_put, then, put_as, take_next, kept_length}
 use Rattle.text.proofs.bytes.Given as goal
 
 abbrev pub invariant-loop-i : goal.invariant-loop-i

@@ -1,5 +1,5 @@
 -- `codec_read::report::read_report` meets its contract: by the row of the frame. Assumes nothing.
-use mathlib.Core.Path.{sym, ◌∙◌}
+use mathlib.Core.Path.{sym}
 use Rattle.codec_pages.proofs.Reading.{report_by_row}
 use Rattle.codec_read.proofs.report.read_report.Goals as goal
 

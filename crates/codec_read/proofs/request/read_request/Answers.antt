@@ -1,5 +1,5 @@
 -- `codec_read::request::read_request` meets its contract: by the row of the frame. Assumes nothing.
-use mathlib.Core.Path.{sym, ◌∙◌}
+use mathlib.Core.Path.{sym}
 use Rattle.codec_pages.proofs.Reading.{request_by_row}
 use Rattle.codec_read.proofs.request.read_request.Goals as goal
 

@@ -1,5 +1,5 @@
 -- `maintenance::message::message_of` meets its contract: whatever is asked for first, the definition says the same. Assumes nothing.
-use mathlib.Core.Path.{sym, ◌∙◌}
+use mathlib.Core.Path.{sym}
 use Rattle.maintenance_pages.proofs.Messages.{says_unlock, says_commit, says_answer, serial_said, read_said, write_said, other_said}
 use borrow.Author.Tests.{eq-eqb, ne_eqb}
 use Rattle.maintenance.proofs.message.message_of.Goals as goal

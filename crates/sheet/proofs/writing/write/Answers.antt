@@ -2,7 +2,6 @@
 use native.Mathlib.Omega.{arith}
 use mathlib.Core.Path.{refl, sym, ◌∙◌}
 use lib.Seq.{length-take-le}
-use borrow.Author.Tests.{not-true, not-false}
 use Rattle.sheet.proofs.Sheets.{sheet_length, illegal_refused, whole_there, short_room, written}
 use Rattle.sheet.proofs.writing.write.Goals as goal
 

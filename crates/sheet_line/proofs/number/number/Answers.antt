@@ -1,9 +1,9 @@
 -- `sheet_line::number::number` meets its contract: what is left gives the same number. Assumes nothing.
 use native.Mathlib.Omega.{arith}
-use Prim.Native.Nat.{ℕ, ◌+◌, ◌-◌}
-use mathlib.Core.Path.{◌≡◌, refl, sym, ap, ◌∙◌}
+use Prim.Native.Nat.{ℕ, ◌+◌}
+use mathlib.Core.Path.{refl, sym, ap, ◌∙◌}
 use lib.Dec.{eqb, leb}
-use lib.ListN.{length, get_or, drop}
+use lib.ListN.{get_or, drop}
 use borrow.Author.Tests.{leb-false}
 use Rattle.words.proofs.Tests.{or_right}
 use Rattle.sheet_line.specs.Number.{base}

@@ -1,13 +1,9 @@
 -- `sheet_line::number::number` meets its contract: what is left gives the same number. Assumes nothing.
-use native.Mathlib.Omega.{arith}
-use Prim.Native.Nat.{ℕ, ◌+◌, ◌-◌}
-use mathlib.Core.Path.{◌≡◌, refl, sym, ap, ◌∙◌}
-use lib.Dec.{eqb, leb}
-use lib.ListN.{length, get_or, drop}
-use borrow.Author.Tests.{leb-false}
-use Rattle.words.proofs.Tests.{or_right}
+use Prim.Native.Nat.{◌-◌}
+use mathlib.Core.Path.{◌≡◌}
+use lib.ListN.{length, drop}
 use Rattle.sheet_line.specs.Number.{base}
-use Rattle.sheet_line.proofs.Numbers.{scan, past_end, at_end, one_on, scanned}
+use Rattle.sheet_line.proofs.Numbers.{scan}
 use Rattle.sheet_line.proofs.number.number.Given as goal
 
 abbrev pub invariant-loop-i : goal.invariant-loop-i
