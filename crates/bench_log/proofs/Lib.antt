@@ -1,4 +1,4 @@
--- Laws of logs, and what the log crate promises, proved.
+-- Laws of logs, and what the crate of logs promises, proved.
 pub mod Parts
 pub mod Records
 pub mod Checks

@@ -1,4 +1,4 @@
--- What the log crate speaks of: the parts of a log, which bytes are one, and its refusals. What it promises is in `Promise`.
+-- What the crate of logs speaks of: the parts of a log, which bytes are one, and its refusals. What it promises is in `Promise`.
 pub mod Layout
 pub mod Block
 pub mod Record
