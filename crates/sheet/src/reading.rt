@@ -68,7 +68,8 @@ pub fn judge(s: &[u8]) -> Judged
         fault.right,
         ends,
     );
-    if right < 7 {
+    let wrong = right < 7;
+    if wrong {
         return Judged::Wrong(right + 1);
     }
     Judged::Sheet(Settings {
