@@ -9,14 +9,13 @@ use codec_pages::report::{Battery, ErrorFlags, Estimates, Report, Voltages};
 use codec_pages::request::Request;
 use codec_pages::rows::Kind;
 use words::Order;
-use words::twos::{pattern16, pattern32};
-use words::word::{bytes16, bytes32};
+use words::word::Word;
 
 fn estimates_body(mux: u8, e: Estimates) -> Body
     ensures { result ≡ body_of (estimates_bytes mux e) }
 {
-    let a = bytes16(Order::Big, e.first);
-    let b = bytes16(Order::Big, e.second);
+    let a = e.first.to_bytes(Order::Big);
+    let b = e.second.to_bytes(Order::Big);
     Body {
         length: 8,
         bytes: [
@@ -37,9 +36,9 @@ fn voltages_body(v: Voltages) -> Body
 {
     let e = Estimates {
         status: v.status,
-        first: pattern16(v.vp),
+        first: u16::from_signed(v.vp),
         first_uncertainty: v.vp_uncertainty,
-        second: pattern16(v.vn),
+        second: u16::from_signed(v.vn),
         second_uncertainty: v.vn_uncertainty,
     };
     estimates_body(0xE3, e)
@@ -50,7 +49,7 @@ fn battery_body(b: Battery) -> Body
 {
     let e = Estimates {
         status: b.status,
-        first: pattern16(b.vb),
+        first: u16::from_signed(b.vb),
         first_uncertainty: b.vb_uncertainty,
         second: b.vb_max,
         second_uncertainty: b.vb_max_uncertainty,
@@ -67,7 +66,7 @@ fn flags_body(kind: Kind, e: ErrorFlags) -> Body
             bytes: [0xE5, e.status, (e.flags % 256) as u8, 0, 0, 0, 0, 0],
         },
         Kind::Sim101 => {
-            let b = bytes16(Order::Big, e.flags);
+            let b = e.flags.to_bytes(Order::Big);
             Body {
                 length: 4,
                 bytes: [0xE5, e.status, b[0], b[1], 0, 0, 0, 0],
@@ -79,7 +78,7 @@ fn flags_body(kind: Kind, e: ErrorFlags) -> Body
 fn word_body(mux: u8, word: u32) -> Body
     ensures { result ≡ body_of (word_bytes mux word) }
 {
-    let b = bytes32(Order::Big, word);
+    let b = word.to_bytes(Order::Big);
     Body {
         length: 5,
         bytes: [mux, b[0], b[1], b[2], b[3], 0, 0, 0],
@@ -90,7 +89,7 @@ fn word_body(mux: u8, word: u32) -> Body
 fn working_voltage_body(voltage: u16) -> Body
     ensures { result ≡ body_of (voltage_bytes voltage) }
 {
-    let b = bytes16(Order::Big, voltage);
+    let b = voltage.to_bytes(Order::Big);
     Body {
         length: 3,
         bytes: [0xF0, b[0], b[1], 0, 0, 0, 0, 0],
@@ -108,7 +107,7 @@ pub(crate) fn report_body(kind: Kind, report: Report) -> Body
         Report::BatteryVoltage(b) => battery_body(b),
         Report::Errors(e) => flags_body(kind, e),
         Report::Word(mux, word) => word_body(mux, word),
-        Report::Temperature(z) => word_body(0x80, pattern32(z)),
+        Report::Temperature(z) => word_body(0x80, u32::from_signed(z)),
         Report::WorkingVoltage(voltage) => working_voltage_body(voltage),
     }
 }
@@ -117,15 +116,13 @@ pub(crate) fn report_body(kind: Kind, report: Report) -> Body
 fn read_body(kind: Kind, mux: u8) -> Body
     ensures { result ≡ body_of (read_bytes kind mux) }
 {
-    match kind {
-        Kind::Sim100 => Body {
-            length: 1,
-            bytes: [mux, 0, 0, 0, 0, 0, 0, 0],
-        },
-        Kind::Sim101 => Body {
-            length: 3,
-            bytes: [mux, 0, 0, 0, 0, 0, 0, 0],
-        },
+    let length = match kind {
+        Kind::Sim100 => 1,
+        Kind::Sim101 => 3,
+    };
+    Body {
+        length,
+        bytes: [mux, 0, 0, 0, 0, 0, 0, 0],
     }
 }
 

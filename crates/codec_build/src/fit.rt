@@ -1,20 +1,10 @@
 // Refusal 6: which values fit their fields.
 ghost use Rattle.std.specs.Prelude.{◌≡◌};
-ghost use Rattle.codec_pages.specs.Building.{is_sim100, voltage_misfit, flags_misfit, misfit};
+ghost use Rattle.codec_pages.specs.Building.{voltage_misfit, flags_misfit, misfit};
 
 use codec_pages::report::Report;
 use codec_pages::rows::Kind;
 use codec_rows::status::bad_status;
-
-// Whether the kind is SIM100.
-fn is_sim100(kind: Kind) -> bool
-    ensures { result ≡ is_sim100 kind }
-{
-    match kind {
-        Kind::Sim100 => true,
-        Kind::Sim101 => false,
-    }
-}
 
 // Whether a voltage does not fit 16 bits, which are signed for SIM101.
 fn voltage_misfit(kind: Kind, z: i32) -> bool
@@ -30,7 +20,7 @@ fn voltage_misfit(kind: Kind, z: i32) -> bool
 fn flags_misfit(kind: Kind, flags: u16) -> bool
     ensures { result ≡ flags_misfit kind flags }
 {
-    is_sim100(kind) & (flags > 255)
+    matches!(kind, Kind::Sim100) & (flags > 255)
 }
 
 // Refusal 6.
@@ -38,16 +28,14 @@ pub(crate) fn misfit_report(kind: Kind, report: Report) -> bool
     ensures { result ≡ misfit kind report }
 {
     match report {
-        Report::IsolationState(e) => bad_status(kind, e.status),
-        Report::Resistances(e) => bad_status(kind, e.status),
-        Report::Capacitances(e) => bad_status(kind, e.status),
+        Report::IsolationState(e) | Report::Resistances(e) | Report::Capacitances(e) => {
+            bad_status(kind, e.status)
+        }
         Report::PoleVoltages(v) => {
             bad_status(kind, v.status) | voltage_misfit(kind, v.vp) | voltage_misfit(kind, v.vn)
         }
         Report::BatteryVoltage(b) => bad_status(kind, b.status) | voltage_misfit(kind, b.vb),
         Report::Errors(e) => bad_status(kind, e.status) | flags_misfit(kind, e.flags),
-        Report::Word(_, _) => false,
-        Report::Temperature(_) => false,
-        Report::WorkingVoltage(_) => false,
+        Report::Word(_, _) | Report::Temperature(_) | Report::WorkingVoltage(_) => false,
     }
 }

@@ -1,42 +1,19 @@
 // Refusal 3: which reports and requests a device kind has.
-ghost use Rattle.std.specs.Prelude.{◌≡◌};
+ghost use Rattle.std.specs.Prelude.{◌≡◌, is_err};
 ghost use Rattle.codec_pages.specs.Building.{unlisted};
 ghost use Rattle.codec_pages.specs.Requests.{unlisted_request};
-ghost use Rattle.codec_pages.specs.Table.{row_of, is_refused, is_word, no_word};
+ghost use Rattle.codec_pages.specs.Table.{row_of, no_word};
 
 use codec_pages::report::Report;
 use codec_pages::request::Request;
-use codec_pages::rows::{Kind, Lookup, Row};
+use codec_pages::rows::{Kind, Row};
 use codec_rows::rows::row_of;
 
 // Whether the kind does not list the multiplexer.
 fn is_unlisted(kind: Kind, mux: u8) -> bool
-    ensures { result ≡ is_refused (row_of kind mux) }
+    ensures { result ≡ is_err (row_of kind mux) }
 {
-    match row_of(kind, mux) {
-        Lookup::Refused(_) => true,
-        Lookup::Listed {
-            row: _,
-            report: _,
-            request: _,
-        } => false,
-    }
-}
-
-fn is_word(row: Row) -> bool
-    ensures { result ≡ is_word row }
-{
-    match row {
-        Row::MuxE0 => false,
-        Row::MuxE1 => false,
-        Row::MuxE2 => false,
-        Row::MuxE3 => false,
-        Row::MuxE4 => false,
-        Row::MuxE5 => false,
-        Row::Mux01To0B => true,
-        Row::Mux80 => false,
-        Row::MuxF0 => false,
-    }
+    row_of(kind, mux).is_err()
 }
 
 // Whether the kind has no word at the multiplexer.
@@ -44,12 +21,8 @@ fn no_word(kind: Kind, mux: u8) -> bool
     ensures { result ≡ no_word (row_of kind mux) }
 {
     match row_of(kind, mux) {
-        Lookup::Refused(_) => true,
-        Lookup::Listed {
-            row,
-            report: _,
-            request: _,
-        } => !is_word(row),
+        Err(_) => true,
+        Ok(listed) => !matches!(listed.row, Row::Mux01To0B),
     }
 }
 

@@ -1,18 +1,20 @@
--- The line that answers a record of docs/CODEC_CASES.md.
-use Rattle.std.specs.Prelude.{ℕ, cond, List, eqb, get_or}
-use Rattle.codec_pages.specs.Table.{number_at}
+-- The line that answers a question of docs/CODEC_CASES.md.
+use Rattle.std.specs.Prelude.{ℕ, List}
+use Rattle.codec_pages.specs.declared.rows.Kind.{Kind}
 use Rattle.codec_pages.specs.Reports.{read_report}
 use Rattle.codec_pages.specs.Requests.{read_request, build_request}
 use Rattle.codec_pages.specs.Building.{build_report}
-use Rattle.codec_cases.specs.Cases.{kind_asked, frame_asked, report_asked, request_asked}
+use Rattle.codec_cases.specs.declared.ask.Question.{Question}
+use Rattle.codec_cases.specs.declared.ask.What.{What}
+use Rattle.codec_cases.specs.declared.ask.What.TheVariants.{ReadReport, ReadRequest, BuildReport, BuildRequest}
 use Rattle.codec_cases.specs.Lines.{report_line, request_line, built_line}
 
--- byte 0: "0 read a report, 1 read a request, 2 build a report, 3 build a request"
-abbrev pub answer_line_by : ℕ → List ℕ → List ℕ
-answer_line_by what r =
-    cond (eqb what 0) (report_line (read_report (kind_asked r) (number_at r 2 4) (frame_asked r)))
-    (cond (eqb what 1) (request_line (read_request (kind_asked r) (number_at r 2 4) (frame_asked r)))
-    (cond (eqb what 2) (built_line (build_report (kind_asked r) (number_at r 2 4) (report_asked r))) (built_line (build_request (kind_asked r) (number_at r 2 4) (request_asked r)))))
+-- "read a report", "read a request", "build a report", "build a request"
+abbrev pub answer_line_by : Kind → ℕ → What → List ℕ
+answer_line_by kind id (ReadReport f) = report_line (read_report kind id f)
+answer_line_by kind id (ReadRequest f) = request_line (read_request kind id f)
+answer_line_by kind id (BuildReport report) = built_line (build_report kind id report)
+answer_line_by kind id (BuildRequest request) = built_line (build_request kind id request)
 
-abbrev pub answer_line : List ℕ → List ℕ
-answer_line r = answer_line_by (get_or r 0 0) r
+abbrev pub answer_line : Question → List ℕ
+answer_line q = answer_line_by q.kind q.identifier q.what

@@ -1,74 +1,96 @@
 // A record of a cases file taken apart.
-ghost use Rattle.std.specs.Prelude.{◌≡◌};
+ghost use Rattle.std.specs.Prelude.{◌≡◌, is_some};
 ghost use Rattle.codec_pages.specs.Table.{number_at};
-ghost use Rattle.codec_cases.specs.Cases.{known_question, kind_asked, frame_asked, estimates_asked, voltages_asked, battery_asked, flags_asked, report_asked, request_asked};
+ghost use Rattle.codec_cases.specs.Cases.{known_question, question_asked, kind_asked, what_asked, frame_asked, estimates_asked, voltages_asked, battery_asked, flags_asked, report_asked, request_asked};
 
 use codec_pages::frame::Frame;
 use codec_pages::report::{Battery, ErrorFlags, Estimates, Report, Voltages};
 use codec_pages::request::Request;
 use codec_pages::rows::Kind;
 use words::Order;
-use words::twos::signed32;
-use words::word::{word16, word32};
+use words::word::{Word, part_at, word_at};
 
-// Whether the record asks anything that docs/CODEC_CASES.md lists.
-pub fn known(r: [u8; 20]) -> bool
-    ensures { result ≡ known_question r }
-{
-    (r[1] < 2) & ((r[0] < 2) | (r[0] < 4) & (r[6] < 9))
+// A question of docs/CODEC_CASES.md: of which kind of device, on which identifier, and what is asked.
+#[derive(Clone, Copy)]
+pub struct Question {
+    pub kind: Kind,
+    pub identifier: u32,
+    pub what: What,
 }
 
-pub fn kind(r: [u8; 20]) -> Kind
-    ensures { result ≡ kind_asked r }
-{
-    let n = r[1];
-    match n {
-        0 => Kind::Sim100,
-        _ => Kind::Sim101,
+// A frame to be read, or what is to be built.
+#[derive(Clone, Copy)]
+pub enum What {
+    ReadReport(Frame),
+    ReadRequest(Frame),
+    BuildReport(Report),
+    BuildRequest(Request),
+}
+
+impl Question {
+    // What the record asks; none where docs/CODEC_CASES.md does not list it.
+    pub fn of(r: [u8; 20]) -> Option<Question>
+        ensures asked { result ≡ question_asked r }
+        ensures known { is_some result ≡ known_question r }
+    {
+        let kind = kind(r)?;
+        let what = What::of(r)?;
+        let identifier = identifier(r);
+        Some(Question {
+            kind,
+            identifier,
+            what,
+        })
     }
 }
 
-// Bytes 2 to 5: the expected identifier, or that of the frame to build.
-pub fn identifier(r: [u8; 20]) -> u32
-    ensures { result ≡ number_at r 2 4 }
+fn kind(r: [u8; 20]) -> Option<Kind>
+    ensures { result ≡ kind_asked r }
 {
-    word32(Order::Big, r[2], r[3], r[4], r[5])
+    match r[1] {
+        0 => Some(Kind::Sim100),
+        1 => Some(Kind::Sim101),
+        _ => None,
+    }
 }
 
-pub fn frame(r: [u8; 20]) -> Frame
+impl What {
+    fn of(r: [u8; 20]) -> Option<What>
+        ensures { result ≡ what_asked r }
+    {
+        match r[0] {
+            0 => Some(What::ReadReport(frame(r))),
+            1 => Some(What::ReadRequest(frame(r))),
+            2 => Some(What::BuildReport(report(r)?)),
+            3 => Some(What::BuildRequest(request(r)?)),
+            _ => None,
+        }
+    }
+}
+
+// A number at a place of the record.
+fn number<W: Word<N>, const N: usize>(r: [u8; 20], place: u8) -> W
+    ensures { W.value result ≡ number_at r place N }
+{
+    word_at(Order::Big, &r, place)
+}
+
+// Bytes 2 to 5: the expected identifier, or that of the frame to build.
+fn identifier(r: [u8; 20]) -> u32
+    ensures { result ≡ number_at r 2 4 }
+{
+    number(r, 2)
+}
+
+fn frame(r: [u8; 20]) -> Frame
     ensures { result ≡ frame_asked r }
 {
     Frame {
         extended: r[6] == 1,
-        identifier: first32(r),
+        identifier: number(r, 8),
         length: r[7],
-        bytes: [r[12], r[13], r[14], r[15], r[16], r[17], r[18], r[19]],
+        bytes: part_at(&r, 12),
     }
-}
-
-// The first value and the second, of 32 bits or of the lower 16.
-fn first32(r: [u8; 20]) -> u32
-    ensures { result ≡ number_at r 8 4 }
-{
-    word32(Order::Big, r[8], r[9], r[10], r[11])
-}
-
-fn second32(r: [u8; 20]) -> u32
-    ensures { result ≡ number_at r 13 4 }
-{
-    word32(Order::Big, r[13], r[14], r[15], r[16])
-}
-
-fn first16(r: [u8; 20]) -> u16
-    ensures { result ≡ number_at r 10 2 }
-{
-    word16(Order::Big, r[10], r[11])
-}
-
-fn second16(r: [u8; 20]) -> u16
-    ensures { result ≡ number_at r 15 2 }
-{
-    word16(Order::Big, r[15], r[16])
 }
 
 fn estimates(r: [u8; 20]) -> Estimates
@@ -76,9 +98,9 @@ fn estimates(r: [u8; 20]) -> Estimates
 {
     Estimates {
         status: r[7],
-        first: first16(r),
+        first: number(r, 10),
         first_uncertainty: r[12],
-        second: second16(r),
+        second: number(r, 15),
         second_uncertainty: r[17],
     }
 }
@@ -88,9 +110,9 @@ fn voltages(r: [u8; 20]) -> Voltages
 {
     Voltages {
         status: r[7],
-        vp: signed32(first32(r)),
+        vp: number::<u32, 4>(r, 8).signed(),
         vp_uncertainty: r[12],
-        vn: signed32(second32(r)),
+        vn: number::<u32, 4>(r, 13).signed(),
         vn_uncertainty: r[17],
     }
 }
@@ -100,9 +122,9 @@ fn battery(r: [u8; 20]) -> Battery
 {
     Battery {
         status: r[7],
-        vb: signed32(first32(r)),
+        vb: number::<u32, 4>(r, 8).signed(),
         vb_uncertainty: r[12],
-        vb_max: second16(r),
+        vb_max: number(r, 15),
         vb_max_uncertainty: r[17],
     }
 }
@@ -112,34 +134,33 @@ fn flags(r: [u8; 20]) -> ErrorFlags
 {
     ErrorFlags {
         status: r[7],
-        flags: first16(r),
+        flags: number(r, 10),
     }
 }
 
 // The report to build.
-pub fn report(r: [u8; 20]) -> Report
+fn report(r: [u8; 20]) -> Option<Report>
     ensures { result ≡ report_asked r }
 {
-    let which = r[6];
-    match which {
+    Some(match r[6] {
         0 => Report::IsolationState(estimates(r)),
         1 => Report::Resistances(estimates(r)),
         2 => Report::Capacitances(estimates(r)),
         3 => Report::PoleVoltages(voltages(r)),
         4 => Report::BatteryVoltage(battery(r)),
         5 => Report::Errors(flags(r)),
-        6 => Report::Word(r[7], first32(r)),
-        7 => Report::Temperature(signed32(first32(r))),
-        _ => Report::WorkingVoltage(first16(r)),
-    }
+        6 => Report::Word(r[7], number(r, 8)),
+        7 => Report::Temperature(number::<u32, 4>(r, 8).signed()),
+        8 => Report::WorkingVoltage(number(r, 10)),
+        _ => return None,
+    })
 }
 
 // The request to build.
-pub fn request(r: [u8; 20]) -> Request
+fn request(r: [u8; 20]) -> Option<Request>
     ensures { result ≡ request_asked r }
 {
-    let which = r[6];
-    match which {
+    Some(match r[6] {
         0 => Request::ReadIsolationState,
         1 => Request::ReadResistances,
         2 => Request::ReadCapacitances,
@@ -148,6 +169,7 @@ pub fn request(r: [u8; 20]) -> Request
         5 => Request::ReadErrorFlags,
         6 => Request::ReadWord(r[7]),
         7 => Request::ReadTemperature,
-        _ => Request::SetWorkingVoltage(first16(r)),
-    }
+        8 => Request::SetWorkingVoltage(number(r, 10)),
+        _ => return None,
+    })
 }

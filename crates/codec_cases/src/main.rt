@@ -7,61 +7,53 @@ ghost use Rattle.codec_cases.specs.Answers.{answer_line};
 mod ask;
 mod line;
 
-use codec_build::report::build_report;
-use codec_build::request::build_request;
-use codec_read::report::read_report;
-use codec_read::request::read_request;
-use door::LastWord;
-use door::turn::{Turn, begin, next_if};
-use show::{Line, empty, written};
+use ask::{Question, What};
+use codec_build::building::build;
+use codec_pages::report::Report;
+use codec_pages::request::Request;
+use codec_read::reading::read;
+use door::turn::{Answers, begin, next_if};
+use door::{LastWord, read_input};
+use line::Show;
+use show::Line;
 use std::io::Stdin;
+use std::ops::ControlFlow;
 
-// The question of a record put to the codec, and its answer at the end of a line.
-fn answer(l: Line, r: [u8; 20]) -> Line
-    ensures { Adds l (answer_line r) result }
+// A question put to the codec, and its answer at the end of a line.
+fn answer(line: &mut Line, question: Question)
+    ensures { Adds line.old (answer_line question) line.new }
 {
-    let kind = ask::kind(r);
-    let id = ask::identifier(r);
-    let what = r[0];
-    match what {
-        0 => line::report(l, read_report(kind, id, ask::frame(r))),
-        1 => line::request(l, read_request(kind, id, ask::frame(r))),
-        2 => line::built(l, build_report(kind, id, ask::report(r))),
-        _ => line::built(l, build_request(kind, id, ask::request(r))),
+    let kind = question.kind;
+    let id = question.identifier;
+    match question.what {
+        What::ReadReport(frame) => read::<Report>(kind, id, frame).show(line),
+        What::ReadRequest(frame) => read::<Request>(kind, id, frame).show(line),
+        What::BuildReport(report) => build(kind, id, report).show(line),
+        What::BuildRequest(request) => build(kind, id, request).show(line),
     }
 }
 
-fn answer_known(r: [u8; 20]) -> Turn {
-    if ask::known(r) {
-        return next_if(written(answer(empty(), r)));
-    }
-    Turn::Over(LastWord::Refused)
+// The questions of a cases file on standard input.
+#[derive(Drop)]
+struct Questions {
+    stdin: Stdin,
 }
 
-// A record is read and answered, up to one that asks nothing known.
-fn answer_next(stdin: &mut Stdin) -> Turn {
-    let mut r = [0u8; 20];
-    let input = door::read_input(stdin, &mut r);
-    let turn = begin(input, 20);
-    match turn {
-        Turn::Next => answer_known(r),
-        Turn::Over(word) => Turn::Over(word),
+impl Answers for Questions {
+    // A record is read and answered, up to one that asks nothing known.
+    fn answer_next(&mut self) -> ControlFlow<LastWord> {
+        let mut r = [0u8; 20];
+        begin(read_input(&mut self.stdin, &mut r), 20)?;
+        let Some(question) = Question::of(r) else {
+            return ControlFlow::Break(LastWord::Refused);
+        };
+        let mut line = Line::empty();
+        answer(&mut line, question);
+        next_if(line.write())
     }
 }
 
 fn main(rt: HostRuntime) {
-    let mut stdin = rt.stdin();
-    let mut turns: u64 = 0xFFFFFFFFFFFFFFFF;
-    while turns > 0 {
-        let turn = answer_next(&mut stdin);
-        match turn {
-            Turn::Next => {}
-            Turn::Over(word) => {
-                door::close(word);
-                return;
-            }
-        }
-        turns -= 1;
-    }
-    door::close(LastWord::Cut);
+    let mut questions = Questions { stdin: rt.stdin() };
+    door::close(questions.answer_all());
 }

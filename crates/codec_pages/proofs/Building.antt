@@ -1,17 +1,20 @@
 -- Building: a value is refused by 6 exactly when it does not fit its field in the table, or breaks the rule of 5. Assumes nothing.
 use Prim.Native.Nat.{ℕ, ◌^◌, ◌<◌, ◌≤◌}
-use mathlib.Core.Path.{◌≡◌, refl, ap, sym, ◌∙◌}
+use mathlib.Core.Path.{◌≡◌, refl, sym, ◌∙◌}
 use mathlib.Core.Bool.{Bool, true, false, not, cond, ◌&&◌, ◌||◌, and-true, or-false}
+use mathlib.Core.Logic.{inl, inr}
 use mathlib.Core.List.{List, [], ◌∷◌, map}
 use native.Mathlib.Omega.{arith}
 use borrow.Author.Tests.{lt-ltb, le-ltb}
 use lib.Dec.{ltb, lit≤}
 use lib.IntN.{ℤ, pos}
 use lib.ListN.{length, take}
+use Rattle.std.specs.Prelude.{Result, Ok, Err, is_err}
+use Rattle.refusal.specs.declared.Refusal.{Refusal}
+use Rattle.codec_pages.specs.declared.frame.Frame.{Frame}
 use Rattle.words.proofs.Tests.{decided, false_true}
 use Rattle.words.proofs.Signed.{over}
 use Rattle.words.specs.Signed.{holds}
-use Rattle.codec_pages.specs.declared.frame.Built.{Built}
 use Rattle.codec_pages.specs.declared.rows.Kind.{Kind}
 use Rattle.codec_pages.specs.declared.rows.Kind.TheVariants.{Sim100, Sim101}
 use Rattle.codec_pages.specs.declared.report.Estimates.{Estimates}
@@ -21,10 +24,11 @@ use Rattle.codec_pages.specs.declared.report.Report.TheVariants.{IsolationState,
 use Rattle.codec_pages.specs.declared.request.Request.{Request}
 use Rattle.codec_pages.specs.declared.request.Request.TheVariants.{ReadIsolationState, ReadResistances, ReadCapacitances, ReadVoltages, ReadBattery, ReadErrorFlags, ReadWord, ReadTemperature, SetWorkingVoltage}
 use Rattle.refusal.specs.declared.Refusal.TheVariants.{OverLimits, NotListed, DoesNotFit}
-use Rattle.codec_pages.specs.Frames.{over_identifier, mux_of, body_of, frame_of, frame_with, not_built, blank}
-use Rattle.codec_pages.specs.Table.{Field, entry_of, row_of, is_refused, unsigned, estimates_of, voltage_at, flags_of}
-use Rattle.refusal.specs.Conditions.{◌when◌}
-use Rattle.refusal.proofs.Conditions.{pick, pick_exactly, first_not_none}
+use Rattle.codec_pages.specs.Frames.{over_identifier, mux_of, body_of, frame_of}
+use Rattle.codec_pages.specs.Table.{Field, entry_of, row_of, unsigned, estimates_of, voltage_at, flags_of}
+use Rattle.refusal.specs.Refusals.{number_of}
+use Rattle.refusal.specs.Conditions.{◌when◌, First}
+use Rattle.refusal.proofs.Conditions.{pick, pick_exactly}
 use Rattle.codec_pages.specs.Told.{estimates, report_mux, request_mux, told_built}
 use Rattle.codec_pages.specs.Reports.{bad_status}
 use Rattle.codec_pages.specs.Building.{unlisted, voltage_misfit, flags_misfit, misfit, report_bytes, build_report}
@@ -68,12 +72,12 @@ flags_six Sim100 e h l =
     rw (lt-ltb e.status 256 h, and-true (ltb e.flags 256), over 256 e.flags, five_in Sim100 0xE5 e.status (lit≤ tt) (lit≤ tt)) refl
 flags_six Sim101 e h l = rw (lt-ltb e.status 256 h, lt-ltb e.flags 65536 l) refl
 
-temperature_six : (k : Kind) (z : ℤ) → is_refused (row_of k 0x80) ≡ false → holds 32 z ≡ true → false ≡ six_of k (Temperature z)
+temperature_six : (k : Kind) (z : ℤ) → is_err (row_of k 0x80) ≡ false → holds 32 z ≡ true → false ≡ six_of k (Temperature z)
 unfolding entry_of
 temperature_six Sim100 z u h = false_true u
 temperature_six Sim101 z u h = rw h refl
 
-voltage_six : (k : Kind) (v : ℕ) → is_refused (row_of k 0xF0) ≡ false → v < 65536 → false ≡ six_of k (WorkingVoltage v)
+voltage_six : (k : Kind) (v : ℕ) → is_err (row_of k 0xF0) ≡ false → v < 65536 → false ≡ six_of k (WorkingVoltage v)
 unfolding entry_of
 voltage_six Sim100 v u h = rw (lt-ltb v 65536 h) refl
 voltage_six Sim101 v u h = false_true u
@@ -104,41 +108,47 @@ six_is k (WorkingVoltage v) h u = voltage_six k v u h
 
 -- ---- what is built: 1, 3, 6 in that order, or the frame
 
-abbrev pub in_order : Bool → Bool → Bool → Built → Built
-in_order one three six b = cond one (not_built OverLimits) (cond three (not_built NotListed) (cond six (not_built DoesNotFit) b))
+abbrev pub in_order : Bool → Bool → Bool → Result Frame Refusal → Result Frame Refusal
+in_order one three six b = cond one (Err OverLimits) (cond three (Err NotListed) (cond six (Err DoesNotFit) b))
 
-told : (a b c : Bool) (i : ℕ) (bs : List ℕ) → told_built (in_order a b c (frame_with i (body_of bs))) ≡ pick ((1 when a) ∷ (3 when b) ∷ (6 when c) ∷ []) (i, map pos (take (length bs) (body_of bs).bytes))
+told : (a b c : Bool) (i : ℕ) (bs : List ℕ) → told_built (in_order a b c (Ok (frame_of i (body_of bs)))) ≡ pick ((1 when a) ∷ (3 when b) ∷ (6 when c) ∷ []) (i, map pos (take (length bs) (body_of bs).bytes))
 told true b c i bs = refl
 told false true c i bs = refl
 told false false true i bs = refl
 told false false false i bs = refl
 
-no_frame : (a b c : Bool) (f : Built) → (a ≡ false → b ≡ false → c ≡ false → ⊥) → (in_order a b c f).frame ≡ blank
-no_frame true b c f h = refl
-no_frame false true c f h = refl
-no_frame false false true f h = refl
-no_frame false false false f h = absurd (h refl refl refl)
+alone : (a b c : Bool) (f : Result Frame Refusal) (n : ℕ) → First n ((1 when a) ∷ (3 when b) ∷ (6 when c) ∷ []) → (why : Refusal) × ((in_order a b c f ≡ Err why) × (number_of why ≡ n))
+alone true b c f n (inl h) = (OverLimits, (refl, sym h.1))
+alone true b c f n (inr h) = false_true h.0
+alone false b c f n (inl h) = false_true (sym h.0)
+alone false true c f n (inr (_, inl h)) = (NotListed, (refl, sym h.1))
+alone false true c f n (inr (_, inr h)) = false_true h.0
+alone false false c f n (inr (_, inl h)) = false_true (sym h.0)
+alone false false true f n (inr (_, inr (_, inl h))) = (DoesNotFit, (refl, sym h.1))
+alone false false true f n (inr (_, inr (_, inr h))) = false_true h.0
+alone false false false f n (inr (_, inr (_, inl h))) = false_true (sym h.0)
+alone false false false f n (inr (_, inr (_, inr h))) = absurd h.1
 
-builds : (b : Built) (one three six : Bool) (i : ℕ) (bs : List ℕ) → b ≡ in_order one three six (frame_with i (body_of bs)) → Builds b ((1 when one) ∷ (3 when three) ∷ (6 when six) ∷ []) (frame_of i (body_of bs))
+builds : (b : Result Frame Refusal) (one three six : Bool) (i : ℕ) (bs : List ℕ) → b ≡ in_order one three six (Ok (frame_of i (body_of bs))) → Builds b ((1 when one) ∷ (3 when three) ∷ (6 when six) ∷ []) (frame_of i (body_of bs))
 builds b one three six i bs e =
     let cs = (1 when one) ∷ (3 when three) ∷ (6 when six) ∷ [] in
     record {
       refused = λ n. rw (e, told one three six i bs) (pick_exactly cs (i, map pos (take (length bs) (body_of bs).bytes)) n);
-      nothing = λ n h. ap (λ (x : Built). x.frame) e ∙ no_frame one three six (frame_with i (body_of bs)) (λ x y z. first_not_none n cs h (x, (y, (z, tt))));
+      nothing = λ n h. rw e (alone one three six (Ok (frame_of i (body_of bs))) n h);
       built = λ h. e ∙ rw (h.0, h.1.0, h.1.1.0) refl;
     }
 
 -- a report and a request are built by their tests, in order
-pub report_by_tests : (k : Kind) (identifier : ℕ) (r : Report) → build_report k identifier r ≡ in_order (over_identifier identifier) (unlisted k r) (misfit k r) (frame_with identifier (body_of (report_bytes k r)))
+pub report_by_tests : (k : Kind) (identifier : ℕ) (r : Report) → build_report k identifier r ≡ in_order (over_identifier identifier) (unlisted k r) (misfit k r) (Ok (frame_of identifier (body_of (report_bytes k r))))
 unfolding build_report
 report_by_tests k identifier r = refl
 
-pub request_by_tests : (k : Kind) (identifier : ℕ) (r : Request) → build_request k identifier r ≡ in_order (over_identifier identifier) (unlisted_request k r) false (frame_with identifier (body_of (request_bytes k r)))
+pub request_by_tests : (k : Kind) (identifier : ℕ) (r : Request) → build_request k identifier r ≡ in_order (over_identifier identifier) (unlisted_request k r) false (Ok (frame_of identifier (body_of (request_bytes k r))))
 unfolding build_request
 request_by_tests k identifier r = refl
 
 -- 6 is looked at only where 3 is not due
-report_is : (k : Kind) (identifier : ℕ) (r : Report) → HeldReport r → build_report k identifier r ≡ in_order (over_identifier identifier) (unlisted k r) (six_of k r) (frame_with identifier (body_of (report_bytes k r)))
+report_is : (k : Kind) (identifier : ℕ) (r : Report) → HeldReport r → build_report k identifier r ≡ in_order (over_identifier identifier) (unlisted k r) (six_of k r) (Ok (frame_of identifier (body_of (report_bytes k r))))
 report_is k identifier r held =
     report_by_tests k identifier r
     ∙ decided (unlisted k r) (λ y. rw y refl) (λ y. rw (y, six_is k r held y) refl)

@@ -9,6 +9,7 @@ use native.Mathlib.Omega.{arith}
 use borrow.Author.Tests.{ne_eqb, eqb-true, not-false}
 use lib.Dec.{eqb, lit≤}
 use lib.ListN.{get_or, length, take, replicate}
+use Rattle.std.specs.Prelude.{Bool, Result, Ok, Err}
 use Rattle.words.proofs.Tests.{decided}
 use Rattle.words.proofs.Signed.{pattern_signed}
 use Rattle.words.specs.Words.{bytes_of}
@@ -16,33 +17,31 @@ use Rattle.words.specs.Signed.{signed_of}
 use Rattle.words.specs.declared.Order.TheVariants.{Big}
 use Rattle.refusal.specs.declared.Refusal.{Refusal}
 use Rattle.refusal.specs.declared.Refusal.TheVariants.{OverLimits, NotExpected, NotListed, WrongLength, WrongStatus}
+use Rattle.refusal.proofs.Conditions.{not_good}
 use Rattle.codec_pages.specs.declared.frame.Frame.{Frame}
 use Rattle.codec_pages.specs.declared.rows.Kind.{Kind}
 use Rattle.codec_pages.specs.declared.rows.Kind.TheVariants.{Sim100, Sim101}
 use Rattle.codec_pages.specs.declared.report.Report.{Report}
 use Rattle.codec_pages.specs.declared.report.Report.TheVariants.{IsolationState, Resistances, Capacitances, PoleVoltages, BatteryVoltage, Errors, Word, Temperature, WorkingVoltage}
-use Rattle.codec_pages.specs.declared.report.ReportReading.TheVariants.{Read, Refused}
 use Rattle.codec_pages.specs.declared.request.Request.{Request}
 use Rattle.codec_pages.specs.declared.request.Request.TheVariants.{ReadIsolationState, ReadResistances, ReadCapacitances, ReadVoltages, ReadBattery, ReadErrorFlags, ReadWord, ReadTemperature, SetWorkingVoltage}
-use Rattle.codec_pages.specs.declared.request.RequestReading.TheVariants.{Read as Asked, Refused as NotAsked}
-use Rattle.codec_pages.specs.Requests.{request_of, request_in, read_request, unlisted_request, read_bytes, request_bytes, build_request}
-use Rattle.codec_pages.specs.Frames.{as_built, over_limits, not_expected, mux_of}
+use Rattle.codec_pages.specs.Requests.{request_of, read_request, unlisted_request, read_bytes, request_bytes, build_request}
+use Rattle.codec_pages.specs.Frames.{over_limits, not_expected, mux_of}
 use Rattle.codec_pages.specs.Held.{HeldFrame}
 use Rattle.codec_pages.specs.Promise.{cleared, ReportBuildsBack, RequestBuildsBack}
 use Rattle.codec_pages.specs.declared.rows.Row.{Row}
-use Rattle.codec_pages.specs.declared.rows.Lookup.{Lookup}
-use Rattle.codec_pages.specs.declared.rows.Lookup.TheVariants.{Listed, Refused as Unlisted}
-use Rattle.codec_pages.specs.Table.{Entry, part, number_at, report_table, own, entry_of, flags_length, request_length, as_row, row_of, frame_row}
+use Rattle.codec_pages.specs.declared.rows.Listed.{Listed}
+use Rattle.codec_pages.specs.Table.{Entry, part, number_at, report_table, own, entry_of, flags_length, request_length, as_row, row_of, frame_row, read_row}
 use Rattle.codec_pages.proofs.Table.{at, Each, by_entry, just, word_listed}
 use Rattle.codec_pages.proofs.ReadBytes.{length_part, take_part, byte_at, bytes_at, number_small, voltage_fits, flags_fit, estimates_bytes_lem, voltages_raw_lem, battery_raw_lem, passed, joined, first_bytes, Passed}
-use Rattle.codec_pages.specs.Reports.{voltage_of, estimates_in, voltages_in, battery_in, flags_in, bad_status, wrong_status, report_of, report_in, read_report}
+use Rattle.codec_pages.specs.Reports.{voltage_of, estimates_in, voltages_in, battery_in, flags_in, bad_status, wrong_status, report_of, read_report}
 use Rattle.codec_pages.specs.Building.{is_sim100, voltage_misfit, estimates_bytes, unlisted, misfit, report_bytes, build_report}
 
 -- ---- reports
 
 module _ (k : Kind) (identifier : ℕ) (f : Frame) (held : HeldFrame f) (p : Passed identifier f) where
   abbrev Rebuilt : Report → Type 0
-  Rebuilt r = build_report k identifier r ≡ as_built (cleared (cond (is_sim100 k && eqb (mux_of f) 0xE5) 3 f.length) f)
+  Rebuilt r = build_report k identifier r ≡ Ok (cleared (cond (is_sim100 k && eqb (mux_of f) 0xE5) 3 f.length) f)
 
   rebuilt : (r : Report) (bs : List ℕ) (place : ℕ) → unlisted k r ≡ false → misfit k r ≡ false → report_bytes k r ≡ bs → f.length ≡ length bs → cond (is_sim100 k && eqb (mux_of f) 0xE5) 3 f.length ≡ place → bs ++ replicate (8 - length bs) 0 ≡ take place f.bytes ++ replicate (8 - place) 0 → Rebuilt r
   unfolding build_report
@@ -63,9 +62,9 @@ module _ (k : Kind) (identifier : ℕ) (f : Frame) (held : HeldFrame f) (p : Pas
   measured x r other e n u m q =
       whole r 8 (subst (λ (y : ℕ). eqb y 0xE5 ≡ false) e other) (lit≤ tt) n u m (q ∙ ap (λ (y : ℕ). y ∷ part f.bytes 1 7) e)
 
-  abbrev Back : ℕ → Lookup → Type 0
-  Back m (Unlisted why) = Unit
-  Back m (Listed row report request) = m ≡ mux_of f → f.length ≡ report → wrong_status k row (get_or f.bytes 1 0) ≡ false → Rebuilt (report_of k row f.bytes)
+  abbrev Back : ℕ → Result Listed Refusal → Type 0
+  Back m (Err why) = Unit
+  Back m (Ok l) = m ≡ mux_of f → f.length ≡ l.report → wrong_status k l.row (get_or f.bytes 1 0) ≡ false → Rebuilt (report_of k l.row f.bytes)
 
   alone : (x : ℕ) (l : Entry) → Back x (as_row (some l)) → (m : ℕ) → x ≤ m → m ≤ x → Back m (as_row (some l))
   alone x l = just x (λ (m : ℕ). Back m (as_row (some l)))
@@ -142,14 +141,8 @@ module _ (identifier : ℕ) (f : Frame) (held : HeldFrame f) (p : Passed identif
 
 -- ---- from a reading to its row
 
-not_read : {X : Type 0} (why : Refusal) (r : Report) → Refused why ≡ Read r → X
-not_read why r e = let z : ◌≡◌ {A = ℕ} 0 1 = cc in absurd (omega arith)
-
-not_asked : {X : Type 0} (why : Refusal) (r : Request) → NotAsked why ≡ Asked r → X
-not_asked why r e = let z : ◌≡◌ {A = ℕ} 0 1 = cc in absurd (omega arith)
-
 -- whatever a row is read for, a frame that is not refused on the way has passed
-through : {X : Type 0} (T : Lookup → Type 0) (k : Kind) (expected : ℕ) (f : Frame) → ((why : Refusal) → T (Unlisted why) → X) → (Passed expected f → T (row_of k (mux_of f)) → X) → T (frame_row k expected f) → X
+through : {X : Type 0} (T : Result Listed Refusal → Type 0) (k : Kind) (expected : ℕ) (f : Frame) → ((why : Refusal) → T (Err why) → X) → (Passed expected f → T (row_of k (mux_of f)) → X) → T (frame_row k expected f) → X
 through T k expected f stopped went t =
     decided (over_limits f)
     (λ x. stopped OverLimits (rw x at t))
@@ -159,23 +152,24 @@ through T k expected f stopped went t =
     (λ z. stopped NotListed (rw (x, y, z) at t))
     (λ z. went (passed expected f x y) (rw (x, y, z) at t))))
 
-report_in_lem : {X : Type 0} (k : Kind) (f : Frame) (r : Report) (l : Lookup) → report_in k f l ≡ Read r → ((row : Row) (report request : ℕ) → l ≡ Listed row report request → f.length ≡ report → wrong_status k row (get_or f.bytes 1 0) ≡ false → report_of k row f.bytes ≡ r → X) → X
-report_in_lem k f r (Unlisted why) e g = not_read why r e
-report_in_lem k f r (Listed row report request) e g =
-    decided (not (eqb f.length report))
-    (λ x. not_read WrongLength r (rw x at e))
-    (λ x. decided (wrong_status k row (get_or f.bytes 1 0))
-    (λ y. not_read WrongStatus r (rw (x, y) at e))
-    (λ y. let q : Read (report_of k row f.bytes) ≡ Read r = rw (x, y) at e in
-    g row report request refl (eqb-true f.length report (not-false (eqb f.length report) x)) y (cc)))
+-- what is read of a row has its length, no wrong status, and is what the bytes say
+by_its_row : {A X : Type 0} (length_of : Listed → ℕ) (wrong : Row → ℕ → Bool) (says : Row → List ℕ → A) (f : Frame) (a : A) (l : Result Listed Refusal) → read_row length_of wrong says f l ≡ Ok a → ((x : Listed) → l ≡ Ok x → f.length ≡ length_of x → wrong x.row (get_or f.bytes 1 0) ≡ false → says x.row f.bytes ≡ a → X) → X
+by_its_row length_of wrong says f a (Err why) e g = not_good why a e
+by_its_row {A = A} length_of wrong says f a (Ok l) e g =
+    decided (not (eqb f.length (length_of l)))
+    (λ x. not_good WrongLength a (rw x at e))
+    (λ x. decided (wrong l.row (get_or f.bytes 1 0))
+    (λ y. not_good WrongStatus a (rw (x, y) at e))
+    (λ y. let q : ◌≡◌ {A = Result A Refusal} (Ok (says l.row f.bytes)) (Ok a) = rw (x, y) at e in
+    g l refl (eqb-true f.length (length_of l) (not-false (eqb f.length (length_of l)) x)) y (cc)))
 
 pub report_builds_back : ReportBuildsBack
 unfolding read_report
 report_builds_back k expected f r held e =
-    through (λ (l : Lookup). report_in k f l ≡ Read r) k expected f
-    (λ why q. not_read why r q)
-    (λ p t. report_in_lem k f r (row_of k (mux_of f)) t
-    (λ row report request l n s q.
+    through (λ (l : Result Listed Refusal). read_row (λ l. l.report) (wrong_status k) (report_of k) f l ≡ Ok r) k expected f
+    (λ why q. not_good why r q)
+    (λ p t. by_its_row (λ l. l.report) (wrong_status k) (report_of k) f r (row_of k (mux_of f)) t
+    (λ x l n s q.
     subst (Rebuilt k expected f held p) q
     (subst (Back k expected f held p (mux_of f)) l
     (by_entry (λ (m : ℕ) (o : Option Entry). Back k expected f held p m (as_row o)) k (mux_of f) tt (entries_back expected f held p k))
@@ -188,7 +182,7 @@ report_builds_back k expected f r held e =
 
 module _ (identifier : ℕ) (f : Frame) (held : HeldFrame f) (p : Passed identifier f) where
   abbrev AskedAgain : Kind → Request → Type 0
-  AskedAgain k r = build_request k identifier r ≡ as_built (cleared (cond (is_sim100 k) f.length 1) f)
+  AskedAgain k r = build_request k identifier r ≡ Ok (cleared (cond (is_sim100 k) f.length 1) f)
 
   asked_again : (k : Kind) (r : Request) (bs : List ℕ) (place : ℕ) → unlisted_request k r ≡ false → request_bytes k r ≡ bs → f.length ≡ length bs → cond (is_sim100 k) f.length 1 ≡ place → bs ++ replicate (8 - length bs) 0 ≡ take place f.bytes ++ replicate (8 - place) 0 → AskedAgain k r
   unfolding build_request
@@ -201,9 +195,9 @@ module _ (identifier : ℕ) (f : Frame) (held : HeldFrame f) (p : Passed identif
   plain Sim101 x r u q e n =
       asked_again Sim101 r (part f.bytes 0 1 ++ replicate 2 0) 1 u (q ∙ ap (λ (y : ℕ). y ∷ replicate 2 0) e) n refl (first_bytes f held 1 (lit≤ tt))
 
-  abbrev AskBack : Kind → ℕ → Lookup → Type 0
-  AskBack k m (Unlisted why) = Unit
-  AskBack k m (Listed row report request) = m ≡ mux_of f → f.length ≡ request → AskedAgain k (request_of row f.bytes)
+  abbrev AskBack : Kind → ℕ → Result Listed Refusal → Type 0
+  AskBack k m (Err why) = Unit
+  AskBack k m (Ok l) = m ≡ mux_of f → f.length ≡ l.request → AskedAgain k (request_of l.row f.bytes)
 
   ask_alone : (k : Kind) (x : ℕ) (l : Entry) → AskBack k x (as_row (some l)) → (m : ℕ) → x ≤ m → m ≤ x → AskBack k m (as_row (some l))
   ask_alone k x l = just x (λ (m : ℕ). AskBack k m (as_row (some l)))
@@ -244,21 +238,13 @@ module _ (identifier : ℕ) (f : Frame) (held : HeldFrame f) (p : Passed identif
     ),
   )
 
-request_in_lem : {X : Type 0} (f : Frame) (r : Request) (l : Lookup) → request_in f l ≡ Asked r → ((row : Row) (report request : ℕ) → l ≡ Listed row report request → f.length ≡ request → request_of row f.bytes ≡ r → X) → X
-request_in_lem f r (Unlisted why) e g = not_asked why r e
-request_in_lem f r (Listed row report request) e g =
-    decided (not (eqb f.length request))
-    (λ x. not_asked WrongLength r (rw x at e))
-    (λ x. let q : Asked (request_of row f.bytes) ≡ Asked r = rw x at e in
-    g row report request refl (eqb-true f.length request (not-false (eqb f.length request) x)) (cc))
-
 pub request_builds_back : RequestBuildsBack
 unfolding read_request
 request_builds_back k expected f r held e =
-    through (λ (l : Lookup). request_in f l ≡ Asked r) k expected f
-    (λ why q. not_asked why r q)
-    (λ p t. request_in_lem f r (row_of k (mux_of f)) t
-    (λ row report request l n q.
+    through (λ (l : Result Listed Refusal). read_row (λ l. l.request) (λ row status. false) request_of f l ≡ Ok r) k expected f
+    (λ why q. not_good why r q)
+    (λ p t. by_its_row (λ l. l.request) (λ row status. false) request_of f r (row_of k (mux_of f)) t
+    (λ x l n y q.
     subst (AskedAgain expected f held p k) q
     (subst (AskBack expected f held p k (mux_of f)) l
     (by_entry (λ (m : ℕ) (o : Option Entry). AskBack expected f held p k m (as_row o)) k (mux_of f) tt (entries_asked expected f held p k))

@@ -33,8 +33,8 @@ read_borders Sim101 = record { one = refl; one_asked = refl; not_one = refl; two
 
 build_borders : (k : Kind) → BuildBorders k
 unfolding build_report build_request entry_of
-build_borders Sim100 = record { one = refl; not_one = refl; three = refl; one_first = refl; blank_frame = refl }
-build_borders Sim101 = record { one = refl; not_one = refl; three = refl; one_first = refl; blank_frame = refl }
+build_borders Sim100 = record { one = refl; not_one = refl; three = refl; one_first = refl; alone = refl }
+build_borders Sim101 = record { one = refl; not_one = refl; three = refl; one_first = refl; alone = refl }
 
 pub borders : Borders
 unfolding read_report build_report read_request build_request entry_of

@@ -9,6 +9,8 @@ use native.Mathlib.Omega.{arith}
 use borrow.Author.Tests.{eqb-true, lt-ltb, le-ltb, not-false}
 use lib.Dec.{eqb}
 use lib.ListN.{get_or, length, take, replicate}
+use Rattle.std.specs.Prelude.{Result, Ok}
+use Rattle.refusal.specs.declared.Refusal.{Refusal}
 use Rattle.words.proofs.Tests.{or_left, or_right}
 use Rattle.words.proofs.Words.{bytes_word}
 use Rattle.words.proofs.Signed.{pattern_signed, signed_held}
@@ -18,7 +20,7 @@ use Rattle.words.specs.declared.Order.TheVariants.{Big}
 use Rattle.codec_pages.specs.declared.frame.Frame.{Frame}
 use Rattle.codec_pages.specs.declared.rows.Kind.{Kind}
 use Rattle.codec_pages.specs.declared.rows.Kind.TheVariants.{Sim100, Sim101}
-use Rattle.codec_pages.specs.Frames.{over_identifier, as_built, over_limits, not_expected, body_of, frame_with}
+use Rattle.codec_pages.specs.Frames.{over_identifier, over_limits, not_expected, body_of, frame_of}
 use Rattle.codec_pages.specs.Held.{HeldFrame}
 use Rattle.codec_pages.specs.Promise.{cleared}
 use Rattle.codec_pages.proofs.Limits.{limits}
@@ -101,7 +103,7 @@ passed identifier f h l =
     record { extended = x; same = i; low = le-ltb 0x1FFFFFFF identifier (subst (λ (n : ℕ). n ≤ 0x1FFFFFFF) i (((limits f).within h).1.0 x)) }
 
 -- the frame with the first bytes of another and zeros after them is that other, cleared
-pub joined : (identifier : ℕ) (f : Frame) (bs : List ℕ) (place : ℕ) → Passed identifier f → f.length ≡ length bs → bs ++ replicate (8 - length bs) 0 ≡ take place f.bytes ++ replicate (8 - place) 0 → frame_with identifier (body_of bs) ≡ as_built (cleared place f)
+pub joined : (identifier : ℕ) (f : Frame) (bs : List ℕ) (place : ℕ) → Passed identifier f → f.length ≡ length bs → bs ++ replicate (8 - length bs) 0 ≡ take place f.bytes ++ replicate (8 - place) 0 → ◌≡◌ {A = Result Frame Refusal} (Ok (frame_of identifier (body_of bs))) (Ok (cleared place f))
 joined identifier f bs place p n e = rw (p.extended, p.same, n, e) refl
 
 pub first_bytes : (f : Frame) → HeldFrame f → (place : ℕ) → place ≤ 8 → part f.bytes 0 place ++ replicate (8 - length (part f.bytes 0 place)) 0 ≡ take place f.bytes ++ replicate (8 - place) 0

@@ -9,6 +9,7 @@ use borrow.Author.Tests.{le-leb, lt-leb}
 use lib.Dec.{eqb, lit≤}
 use lib.IntN.{ℤ, pos}
 use lib.ListN.{get_or, drop}
+use Rattle.std.specs.Prelude.{Result, Ok, Err}
 use Rattle.words.proofs.Tests.{decided}
 use Rattle.refusal.specs.Refusals.{number_of}
 use Rattle.refusal.specs.Conditions.{Condition, ◌when◌, Told, refusal, good, GivenExactly}
@@ -18,15 +19,12 @@ use Rattle.refusal.specs.declared.Refusal.TheVariants.{OverLimits, NotExpected, 
 use Rattle.codec_pages.specs.declared.frame.Frame.{Frame}
 use Rattle.codec_pages.specs.declared.rows.Kind.{Kind}
 use Rattle.codec_pages.specs.declared.rows.Kind.TheVariants.{Sim100, Sim101}
-use Rattle.codec_pages.specs.declared.rows.Lookup.{Lookup}
-use Rattle.codec_pages.specs.declared.rows.Lookup.TheVariants.{Refused as Unlisted}
-use Rattle.codec_pages.specs.declared.report.ReportReading.TheVariants.{Read}
-use Rattle.codec_pages.specs.declared.request.RequestReading.TheVariants.{Read as Asked}
+use Rattle.codec_pages.specs.declared.rows.Listed.{Listed}
 use Rattle.codec_pages.specs.Frames.{over_limits, not_expected, mux_of}
-use Rattle.codec_pages.specs.Table.{Field, Entry, unsigned, estimates_of, voltage_at, flags_of, value_in, number_at, report_table, own, entry_of, as_row, row_of, frame_row}
+use Rattle.codec_pages.specs.Table.{Field, Entry, unsigned, estimates_of, voltage_at, flags_of, value_in, number_at, report_table, own, entry_of, as_row, row_of, frame_row, read_row, read}
 use Rattle.codec_pages.specs.Told.{Values, told_report, told_request}
-use Rattle.codec_pages.specs.Reports.{voltage_of, flags_in, bad_status, has_status, wrong_status, report_of, report_in, read_report}
-use Rattle.codec_pages.specs.Requests.{request_of, request_in, read_request}
+use Rattle.codec_pages.specs.Reports.{voltage_of, flags_in, bad_status, has_status, wrong_status, report_of, read_report}
+use Rattle.codec_pages.specs.Requests.{request_of, read_request}
 use Rattle.codec_pages.specs.Conditions.{is_none, not_listed, report_length, request_length_of, report_fields, request_fields, five_of, report_conditions, request_conditions, table_report, table_request}
 use Rattle.codec_pages.proofs.Table.{at, Each, by_entry, just}
 
@@ -65,13 +63,13 @@ module _ (k : Kind) (f : Frame) where
   abbrev Says : ℕ → Option Entry → Type 0
   Says m o =
       m ≡ mux_of f →
-      told_report (report_in k f (as_row o))
+      told_report (read_row (λ l. l.report) (wrong_status k) (report_of k) f (as_row o))
       ≡ pick
       ((3 when is_none o) ∷ (4 when not (eqb f.length (report_length o))) ∷ (5 when five_of k m (get_or f.bytes 1 0)) ∷ [])
       (m, map (value_in f.bytes) (report_fields o))
 
   -- an entry says it where it is right about the status and about the values
-  says : (m : ℕ) (l : Entry) → wrong_status k l.row (get_or f.bytes 1 0) ≡ five_of k m (get_or f.bytes 1 0) → (m ≡ mux_of f → told_report (Read (report_of k l.row f.bytes)) ≡ values m (map (value_in f.bytes) l.fields)) → Says m (some l)
+  says : (m : ℕ) (l : Entry) → wrong_status k l.row (get_or f.bytes 1 0) ≡ five_of k m (get_or f.bytes 1 0) → (m ≡ mux_of f → told_report (Ok (report_of k l.row f.bytes)) ≡ values m (map (value_in f.bytes) l.fields)) → Says m (some l)
   says m l status fields e =
       rw (sym status)
       (decided (not (eqb f.length l.report))
@@ -82,7 +80,7 @@ module _ (k : Kind) (f : Frame) where
   alone x l p = just x (λ (m : ℕ). Says m (some l)) p
 
   -- E0 to E5
-  measured : (x i : ℕ) → 0xE0 ≤ x → x ≤ 0xE5 → has_status (at k i).row ≡ true → told_report (Read (report_of k (at k i).row f.bytes)) ≡ values x (map (value_in f.bytes) (at k i).fields) → (m : ℕ) → x ≤ m → m ≤ x → Says m (some (at k i))
+  measured : (x i : ℕ) → 0xE0 ≤ x → x ≤ 0xE5 → has_status (at k i).row ≡ true → told_report (Ok (report_of k (at k i).row f.bytes)) ≡ values x (map (value_in f.bytes) (at k i).fields) → (m : ℕ) → x ≤ m → m ≤ x → Says m (some (at k i))
   measured x i h l has fields =
       alone x (at k i) (says x (at k i) (rw has (five_in k x (get_or f.bytes 1 0) h l)) (λ e. fields))
 
@@ -122,8 +120,8 @@ entries k f =
 
 -- ---- 1, 2, 3: the same for reports and requests
 
-module _ (told : Lookup → Told Values) (k : Kind) (expected : ℕ) (f : Frame) (cs : List Condition) (t : Values) where
-  after_limits : ((why : Refusal) → told (Unlisted why) ≡ refusal (number_of why)) → told (row_of k (mux_of f)) ≡ pick ((3 when is_none (entry_of k (mux_of f))) ∷ cs) t → told (frame_row k expected f) ≡ pick ((1 when over_limits f) ∷ (2 when not_expected expected f) ∷ (3 when not_listed k f) ∷ cs) t
+module _ (told : Result Listed Refusal → Told Values) (k : Kind) (expected : ℕ) (f : Frame) (cs : List Condition) (t : Values) where
+  after_limits : ((why : Refusal) → told (Err why) ≡ refusal (number_of why)) → told (row_of k (mux_of f)) ≡ pick ((3 when is_none (entry_of k (mux_of f))) ∷ cs) t → told (frame_row k expected f) ≡ pick ((1 when over_limits f) ∷ (2 when not_expected expected f) ∷ (3 when not_listed k f) ∷ cs) t
   after_limits why row =
       decided (over_limits f)
       (λ x. rw x (why OverLimits))
@@ -133,15 +131,19 @@ module _ (told : Lookup → Told Values) (k : Kind) (expected : ℕ) (f : Frame)
       (λ z. rw (x, y, z) (why NotListed))
       (λ z. rw (x, y, z) row)))
 
--- a report is read by the row of its frame
-pub report_by_row : (k : Kind) (expected : ℕ) (f : Frame) → read_report k expected f ≡ report_in k f (frame_row k expected f)
+-- a report and a request are read by their rows
+pub report_by_row : (k : Kind) (expected : ℕ) (f : Frame) → read_report k expected f ≡ read (λ l. l.report) (wrong_status k) (report_of k) k expected f
 unfolding read_report
 report_by_row k expected f = refl
+
+pub request_by_row : (k : Kind) (expected : ℕ) (f : Frame) → read_request k expected f ≡ read (λ l. l.request) (λ row status. false) request_of k expected f
+unfolding read_request
+request_by_row k expected f = refl
 
 report_told : (k : Kind) (expected : ℕ) (f : Frame) → told_report (read_report k expected f) ≡ pick (report_conditions k expected f) (table_report k f)
 unfolding read_report
 report_told k expected f =
-    after_limits (λ (l : Lookup). told_report (report_in k f l)) k expected f (drop 3 (report_conditions k expected f)) (table_report k f)
+    after_limits (λ (l : Result Listed Refusal). told_report (read_row (λ l. l.report) (wrong_status k) (report_of k) f l)) k expected f (drop 3 (report_conditions k expected f)) (table_report k f)
     (λ why. refl)
     (by_entry (Says k f) k (mux_of f) (λ e. refl) (entries k f) refl)
 
@@ -156,16 +158,16 @@ module _ (f : Frame) where
   abbrev Asks : ℕ → Option Entry → Type 0
   Asks m o =
       m ≡ mux_of f →
-      told_request (request_in f (as_row o))
+      told_request (read_row (λ l. l.request) (λ row status. false) request_of f (as_row o))
       ≡ pick
       ((3 when is_none o) ∷ (4 when not (eqb f.length (request_length_of o))) ∷ [])
       (m, map (value_in f.bytes) (request_fields o))
 
-  asks : (m : ℕ) (l : Entry) → (m ≡ mux_of f → told_request (Asked (request_of l.row f.bytes)) ≡ values m (map (value_in f.bytes) l.asked)) → Asks m (some l)
+  asks : (m : ℕ) (l : Entry) → (m ≡ mux_of f → told_request (Ok (request_of l.row f.bytes)) ≡ values m (map (value_in f.bytes) l.asked)) → Asks m (some l)
   asks m l fields e =
       decided (not (eqb f.length l.request)) (λ t. rw t refl) (λ t. rw t (fields e))
 
-  asked : (x : ℕ) (l : Entry) → told_request (Asked (request_of l.row f.bytes)) ≡ values x (map (value_in f.bytes) l.asked) → (m : ℕ) → x ≤ m → m ≤ x → Asks m (some l)
+  asked : (x : ℕ) (l : Entry) → told_request (Ok (request_of l.row f.bytes)) ≡ values x (map (value_in f.bytes) l.asked) → (m : ℕ) → x ≤ m → m ≤ x → Asks m (some l)
   asked x l fields = just x (λ (m : ℕ). Asks m (some l)) (asks x l (λ e. fields))
 
   own_asked : (k : Kind) → Each Asks (own k)
@@ -193,15 +195,10 @@ module _ (f : Frame) where
     ),
   )
 
--- a request is read by the row of its frame
-pub request_by_row : (k : Kind) (expected : ℕ) (f : Frame) → read_request k expected f ≡ request_in f (frame_row k expected f)
-unfolding read_request
-request_by_row k expected f = refl
-
 request_told : (k : Kind) (expected : ℕ) (f : Frame) → told_request (read_request k expected f) ≡ pick (request_conditions k expected f) (table_request k f)
 unfolding read_request
 request_told k expected f =
-    after_limits (λ (l : Lookup). told_request (request_in f l)) k expected f (drop 3 (request_conditions k expected f)) (table_request k f)
+    after_limits (λ (l : Result Listed Refusal). told_request (read_row (λ l. l.request) (λ row status. false) request_of f l)) k expected f (drop 3 (request_conditions k expected f)) (table_request k f)
     (λ why. refl)
     (by_entry (Asks f) k (mux_of f) (λ e. refl) (asked_entries f k) refl)
 

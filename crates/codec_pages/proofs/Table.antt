@@ -10,13 +10,13 @@ use borrow.Author.Tests.{le-leb, lt-leb}
 use lib.Dec.{T, leb, leb→le}
 use lib.ListN.{get_or, take, drop}
 use mir.Facts.{and_yes, or_yes}
+use Rattle.std.specs.Prelude.{Ok, Err}
 use Rattle.words.proofs.Tests.{decided, false_true}
 use Rattle.refusal.specs.declared.Refusal.TheVariants.{NotListed}
 use Rattle.codec_pages.specs.declared.rows.Kind.{Kind}
 use Rattle.codec_pages.specs.declared.rows.Kind.TheVariants.{Sim100, Sim101}
 use Rattle.codec_pages.specs.declared.rows.Row.TheVariants.{MuxE0, Mux01To0B}
-use Rattle.codec_pages.specs.declared.rows.Lookup.TheVariants.{Refused, Listed}
-use Rattle.codec_pages.specs.Table.{Entry, entry, covers, entry_in, entry_of, as_row, row_of, no_word, report_table, own, common, request_length}
+use Rattle.codec_pages.specs.Table.{listed, Entry, entry, covers, entry_in, entry_of, as_row, row_of, no_word, report_table, own, common, request_length}
 
 -- ---- covers
 
@@ -59,7 +59,7 @@ abbrev pub at : Kind → ℕ → Entry
 at k i = get_or (report_table k) i (entry 0 0 MuxE0 0 0 [] [])
 
 -- a multiplexer where the common entries have none, and that the kind alone has not
-pub not_listed : (k : Kind) (low high m : ℕ) → T (clear (common k) low high) → low < m → m < high → entry_in (own k) m ≡ none → row_of k m ≡ Refused NotListed
+pub not_listed : (k : Kind) (low high m : ℕ) → T (clear (common k) low high) → low < m → m < high → entry_in (own k) m ≡ none → row_of k m ≡ Err NotListed
 unfolding entry_of
 not_listed k low high m t h l o = ap as_row (past (common k) (own k) low high m t h l ∙ o)
 
@@ -70,7 +70,7 @@ word_entry k m h l =
     past (take 6 (report_table k)) (drop 6 (report_table k)) 0 0x0C m tt (omega arith) (omega arith)
     ∙ rw (le-leb 0x01 m h, le-leb m 0x0B l) refl
 
-pub word_row : (k : Kind) (m : ℕ) → 0x01 ≤ m → m ≤ 0x0B → row_of k m ≡ Listed Mux01To0B 5 (request_length k)
+pub word_row : (k : Kind) (m : ℕ) → 0x01 ≤ m → m ≤ 0x0B → row_of k m ≡ Ok (listed Mux01To0B 5 (request_length k))
 word_row k m h l = ap as_row (word_entry k m h l)
 
 pub word_listed : (k : Kind) (m : ℕ) → 0x01 ≤ m → m ≤ 0x0B → no_word (row_of k m) ≡ false

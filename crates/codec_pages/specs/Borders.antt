@@ -1,5 +1,6 @@
 -- The refusals at their borders, in document 01's numbers: what is refused by each, and beside it the nearest that is not.
-use Rattle.std.specs.Prelude.{ℕ, ◌≤◌, ◌≡◌, Bool, true, false, List, [], ◌∷◌, ◌++◌, map, ◌↔◌, ℤ, pos, negsuc, length, replicate}
+use Rattle.std.specs.Prelude.{ℕ, ◌≤◌, ◌≡◌, Bool, true, false, List, [], ◌∷◌, ◌++◌, map, ◌↔◌, ℤ, pos, negsuc, length, replicate, Err}
+use Rattle.refusal.specs.declared.Refusal.TheVariants.{OverLimits}
 use Rattle.refusal.specs.Conditions.{Told, refusal, good}
 use Rattle.codec_pages.specs.declared.rows.Kind.{Kind}
 use Rattle.codec_pages.specs.declared.rows.Kind.TheVariants.{Sim100, Sim101}
@@ -109,8 +110,8 @@ pub record BuildBorders (k : Kind) : Type 0 where
   pub three : AllRefused 3 (built_of k (Word 0x00 0 ∷ Word 0x0C 0 ∷ Word 0xE0 0 ∷ []) ++ requests_of k (ReadWord 0x00 ∷ ReadWord 0x0C ∷ ReadWord 0xE0 ∷ []))
   -- "1 (identifier), 3, 6": where several are due the first is given. 3 and 6 are never due of one report
   pub one_first : AllRefused 1 (told_built (build_report k 0x20000000 (Word 0x0C 0)) ∷ told_built (build_request k 0x20000000 (ReadWord 0x0C)) ∷ [])
-  -- "A refusal returns the number alone": nothing is in the frame beside it
-  pub blank_frame : (build_report k 0x20000000 (Word 0x01 0)).frame ≡ frame_from false 0 0 (0 ∷ 0 ∷ 0 ∷ 0 ∷ 0 ∷ 0 ∷ 0 ∷ 0 ∷ [])
+  -- "A refusal returns the number alone"
+  pub alone : build_report k 0x20000000 (Word 0x01 0) ≡ Err OverLimits
 
 pub record BuildBordersOfOne : Type 0 where
   pub one_first : AllRefused 1 (told_built (build_report Sim100 0x20000000 (errors 0x10 0)) ∷ [])

@@ -1,10 +1,10 @@
 -- Building: the bytes of each report, and refusals 1, 3 and 6.
-use Rattle.std.specs.Prelude.{ℕ, Bool, true, false, not, cond, ◌&&◌, ◌||◌, List, [], ◌∷◌, ◌++◌, ltb, ℤ, replicate}
+use Rattle.std.specs.Prelude.{ℕ, Bool, true, false, not, ◌&&◌, ◌||◌, List, [], ◌∷◌, ◌++◌, ltb, ℤ, replicate, Result, is_err}
 use Rattle.words.specs.declared.Order.TheVariants.{Big}
 use Rattle.words.specs.Words.{bytes_of}
 use Rattle.words.specs.Signed.{pattern_of, holds, holds_unsigned}
-use Rattle.refusal.specs.declared.Refusal.TheVariants.{OverLimits, NotListed, DoesNotFit}
-use Rattle.codec_pages.specs.declared.frame.Built.{Built}
+use Rattle.refusal.specs.declared.Refusal.{Refusal}
+use Rattle.codec_pages.specs.declared.frame.Frame.{Frame}
 use Rattle.codec_pages.specs.declared.rows.Kind.{Kind}
 use Rattle.codec_pages.specs.declared.rows.Kind.TheVariants.{Sim100, Sim101}
 use Rattle.codec_pages.specs.declared.report.Estimates.{Estimates}
@@ -13,8 +13,8 @@ use Rattle.codec_pages.specs.declared.report.Battery.{Battery}
 use Rattle.codec_pages.specs.declared.report.ErrorFlags.{ErrorFlags}
 use Rattle.codec_pages.specs.declared.report.Report.{Report}
 use Rattle.codec_pages.specs.declared.report.Report.TheVariants.{IsolationState, Resistances, Capacitances, PoleVoltages, BatteryVoltage, Errors, Word, Temperature, WorkingVoltage}
-use Rattle.codec_pages.specs.Frames.{over_identifier, body_of, frame_with, not_built}
-use Rattle.codec_pages.specs.Table.{row_of, no_word, is_refused}
+use Rattle.codec_pages.specs.Frames.{build}
+use Rattle.codec_pages.specs.Table.{row_of, no_word}
 use Rattle.codec_pages.specs.Reports.{bad_status}
 
 abbrev pub is_sim100 : Kind → Bool
@@ -23,15 +23,15 @@ is_sim100 Sim101 = false
 
 -- 3: "a multiplexer not listed for that device kind". A word is listed where the table has one
 abbrev pub unlisted : Kind → Report → Bool
-unlisted k (IsolationState e) = is_refused (row_of k 0xE0)
-unlisted k (Resistances e) = is_refused (row_of k 0xE1)
-unlisted k (Capacitances e) = is_refused (row_of k 0xE2)
-unlisted k (PoleVoltages v) = is_refused (row_of k 0xE3)
-unlisted k (BatteryVoltage b) = is_refused (row_of k 0xE4)
-unlisted k (Errors e) = is_refused (row_of k 0xE5)
+unlisted k (IsolationState e) = is_err (row_of k 0xE0)
+unlisted k (Resistances e) = is_err (row_of k 0xE1)
+unlisted k (Capacitances e) = is_err (row_of k 0xE2)
+unlisted k (PoleVoltages v) = is_err (row_of k 0xE3)
+unlisted k (BatteryVoltage b) = is_err (row_of k 0xE4)
+unlisted k (Errors e) = is_err (row_of k 0xE5)
 unlisted k (Word mux w) = no_word (row_of k mux)
-unlisted k (Temperature z) = is_refused (row_of k 0x80)
-unlisted k (WorkingVoltage v) = is_refused (row_of k 0xF0)
+unlisted k (Temperature z) = is_err (row_of k 0x80)
+unlisted k (WorkingVoltage v) = is_err (row_of k 0xF0)
 
 -- ---- 6: "a value to be built does not fit its field or breaks the rule of 5"
 
@@ -101,8 +101,5 @@ report_bytes k (Temperature z) = word_bytes 0x80 (pattern_of 32 z)
 report_bytes k (WorkingVoltage v) = voltage_bytes v
 
 -- "Building a frame: 1 (identifier), 3, 6."
-unfoldable pub build_report : Kind → ℕ → Report → Built
-build_report k identifier r =
-    cond (over_identifier identifier) (not_built OverLimits)
-    (cond (unlisted k r) (not_built NotListed)
-    (cond (misfit k r) (not_built DoesNotFit) (frame_with identifier (body_of (report_bytes k r)))))
+unfoldable pub build_report : Kind → ℕ → Report → Result Frame Refusal
+build_report k identifier r = build (unlisted k) (misfit k) (report_bytes k) identifier r

@@ -1,10 +1,9 @@
 -- Frames: document 01's refusals 1 and 2, and the frames that are built.
-use Rattle.std.specs.Prelude.{ℕ, ◌-◌, Bool, true, false, not, ◌||◌, ◌&&◌, List, ◌++◌, ltb, eqb, length, get_or, replicate}
+use Rattle.std.specs.Prelude.{ℕ, ◌-◌, Bool, true, not, cond, ◌||◌, ◌&&◌, List, ◌++◌, ltb, eqb, length, get_or, replicate, Result, Ok, Err}
 use Rattle.refusal.specs.declared.Refusal.{Refusal}
+use Rattle.refusal.specs.declared.Refusal.TheVariants.{OverLimits, NotListed, DoesNotFit}
 use Rattle.codec_pages.specs.declared.frame.Frame.{Frame}
 use Rattle.codec_pages.specs.declared.frame.Body.{Body}
-use Rattle.codec_pages.specs.declared.frame.Built.{Built}
-use Rattle.refusal.specs.declared.Acceptance.TheVariants.{Accepted, Refused}
 
 -- an identifier of more than 29 bits
 abbrev pub over_identifier : ℕ → Bool
@@ -33,15 +32,10 @@ body_of bs = record { length = length bs; bytes = bs ++ replicate (8 - length bs
 abbrev pub frame_of : ℕ → Body → Frame
 frame_of identifier body = record { extended = true; identifier = identifier; length = body.length; bytes = body.bytes }
 
-abbrev pub as_built : Frame → Built
-as_built f = record { acceptance = Accepted; frame = f }
+-- ---- a frame built of a report or a request: by those that the kind does not list, by those that do not fit, and by the bytes
 
-abbrev pub frame_with : ℕ → Body → Built
-frame_with identifier body = as_built (frame_of identifier body)
-
--- "A refusal returns the number alone": the frame beside it is blank
-abbrev pub blank : Frame
-blank = record { extended = false; identifier = 0; length = 0; bytes = replicate 8 0 }
-
-abbrev pub not_built : Refusal → Built
-not_built why = record { acceptance = Refused why; frame = blank }
+abbrev pub build : {A : Type 0} → (A → Bool) → (A → Bool) → (A → List ℕ) → ℕ → A → Result Frame Refusal
+build unlisted misfit bytes identifier a =
+    cond (over_identifier identifier) (Err OverLimits)
+    (cond (unlisted a) (Err NotListed)
+    (cond (misfit a) (Err DoesNotFit) (Ok (frame_of identifier (body_of (bytes a))))))

@@ -1,18 +1,16 @@
 -- The pages in bytes: for each row of the report table and each device kind a frame, and what it says. A definition that is wrong
 -- about a row is refused here. `Borders` has the refusals.
-use Rattle.std.specs.Prelude.{ℕ, ◌≡◌, Bool, true, List, [], ◌∷◌, ◌++◌, map, ℤ, pos, negsuc}
+use Rattle.std.specs.Prelude.{ℕ, ◌≡◌, Bool, true, List, [], ◌∷◌, ◌++◌, map, ℤ, pos, negsuc, Result, Ok}
 use Rattle.codec_pages.specs.declared.frame.Frame.{Frame}
-use Rattle.codec_pages.specs.declared.frame.Built.{Built}
 use Rattle.codec_pages.specs.declared.rows.Kind.{Kind}
 use Rattle.codec_pages.specs.declared.rows.Kind.TheVariants.{Sim100, Sim101}
 use Rattle.codec_pages.specs.declared.report.Estimates.{Estimates}
 use Rattle.codec_pages.specs.declared.report.Report.{Report}
 use Rattle.codec_pages.specs.declared.report.Report.TheVariants.{IsolationState, Resistances, Capacitances, PoleVoltages, BatteryVoltage, Errors, Word, Temperature, WorkingVoltage}
-use Rattle.codec_pages.specs.declared.report.ReportReading.TheVariants.{Read}
 use Rattle.codec_pages.specs.declared.request.Request.{Request}
 use Rattle.codec_pages.specs.declared.request.Request.TheVariants.{ReadIsolationState, ReadResistances, ReadCapacitances, ReadVoltages, ReadBattery, ReadErrorFlags, ReadWord, ReadTemperature, SetWorkingVoltage}
-use Rattle.codec_pages.specs.declared.request.RequestReading.TheVariants.{Read as Asked}
-use Rattle.codec_pages.specs.Frames.{mux_of, as_built}
+use Rattle.codec_pages.specs.Frames.{mux_of}
+use Rattle.refusal.specs.declared.Refusal.{Refusal}
 use Rattle.refusal.specs.Conditions.{Told, good}
 use Rattle.codec_pages.specs.Told.{Values, told_report, told_request, told_built}
 use Rattle.codec_pages.specs.Reports.{read_report}
@@ -114,10 +112,10 @@ asked_of_one =
 -- ---- the pages
 
 -- each frame reads as what it says, that is built as the frame, and its values are those that are told of it and found by the table
-pub record InBytes {Result Said : Type 0} (reads : Kind → Frame → Result) (as_read : Said → Result) (builds : Kind → Said → Built) (tells : Result → Told Values) (finds : Kind → Frame → Values) (samples : List (Sample Said)) : Type 0 where
-  pub read : map (λ s. reads s.kind s.frame) samples ≡ map (λ s. as_read s.says) samples
-  pub built : map (λ s. builds s.kind s.says) samples ≡ map (λ s. as_built s.frame) samples
-  pub told : map (λ s. tells (as_read s.says)) samples ≡ map (λ s. good s.values) samples
+pub record InBytes {Said : Type 0} (reads : Kind → Frame → Result Said Refusal) (builds : Kind → Said → Result Frame Refusal) (tells : Result Said Refusal → Told Values) (finds : Kind → Frame → Values) (samples : List (Sample Said)) : Type 0 where
+  pub read : map (λ s. reads s.kind s.frame) samples ≡ map (λ s. Ok s.says) samples
+  pub built : map (λ s. builds s.kind s.says) samples ≡ map (λ s. Ok s.frame) samples
+  pub told : map (λ s. tells (Ok s.says)) samples ≡ map (λ s. good s.values) samples
   pub found : map (λ s. finds s.kind s.frame) samples ≡ map (λ s. s.values) samples
 
 -- "ignored on reading": bytes past the length, bytes 3-7 of a SIM100 E5, bytes 1 and 2 of a SIM101 request
@@ -130,8 +128,8 @@ pub record Ignored : Type 0 where
   pub past_1 : told_request (read_request Sim100 0x0A100101 (request_frame 1 (0x0B ∷ 0xFF ∷ 0xFF ∷ 0xFF ∷ 0xFF ∷ 0xFF ∷ 0xFF ∷ 0xFF ∷ []))) ≡ good (0x0B, [])
 
 pub record Pages : Type 0 where
-  pub reports : InBytes (λ k f. read_report k 0x0A100100 f) Read (λ k r. build_report k 0x0A100100 r) told_report table_report (of_both Sim100 ++ (of_both Sim101 ++ (of_sim100 ++ of_sim101)))
-  pub requests : InBytes (λ k f. read_request k 0x0A100101 f) Asked (λ k r. build_request k 0x0A100101 r) told_request table_request (asked_of Sim100 1 ++ (asked_of Sim101 3 ++ asked_of_one))
+  pub reports : InBytes (λ k f. read_report k 0x0A100100 f) (λ k r. build_report k 0x0A100100 r) told_report table_report (of_both Sim100 ++ (of_both Sim101 ++ (of_sim100 ++ of_sim101)))
+  pub requests : InBytes (λ k f. read_request k 0x0A100101 f) (λ k r. build_request k 0x0A100101 r) told_request table_request (asked_of Sim100 1 ++ (asked_of Sim101 3 ++ asked_of_one))
   pub ignored : Ignored
   -- a built frame is told by its identifier and its bytes, as many as its length says
   pub sent : told_built (build_report Sim100 0x0A100100 (WorkingVoltage 600)) ≡ good (0x0A100100, pos 0xF0 ∷ pos 0x02 ∷ pos 0x58 ∷ [])

@@ -1,16 +1,15 @@
 -- What the codec promises, for every frame, every kind and every identifier there is. `proofs/Promise` proves it.
-use Rattle.std.specs.Prelude.{ℕ, ◌-◌, ◌<◌, ◌≤◌, ◌≡◌, true, false, cond, ◌&&◌, List, [], ◌∷◌, ◌++◌, ◌↔◌, ◌⊎◌, eqb, negsuc, take, replicate}
-use Rattle.refusal.specs.Conditions.{Condition, First, None, refusal, GivenExactly}
+use Rattle.std.specs.Prelude.{ℕ, ◌-◌, ◌<◌, ◌≤◌, ◌≡◌, true, false, cond, ◌&&◌, List, [], ◌∷◌, ◌++◌, ◌↔◌, ◌⊎◌, eqb, negsuc, take, replicate, Result, Ok, Err}
+use Rattle.refusal.specs.declared.Refusal.{Refusal}
+use Rattle.refusal.specs.Refusals.{number_of}
+use Rattle.refusal.specs.Conditions.{Condition, First, NoneHolds, refusal, GivenExactly}
 use Rattle.codec_pages.specs.declared.frame.Frame.{Frame}
-use Rattle.codec_pages.specs.declared.frame.Built.{Built}
 use Rattle.codec_pages.specs.declared.rows.Kind.{Kind}
 use Rattle.codec_pages.specs.declared.report.Report.{Report}
 use Rattle.codec_pages.specs.declared.report.Report.TheVariants.{Word}
-use Rattle.codec_pages.specs.declared.report.ReportReading.TheVariants.{Read}
 use Rattle.codec_pages.specs.declared.request.Request.{Request}
-use Rattle.codec_pages.specs.declared.request.RequestReading.TheVariants.{Read as Asked}
 use Rattle.words.specs.Signed.{signed_of}
-use Rattle.codec_pages.specs.Frames.{over_limits, mux_of, body_of, frame_of, as_built, blank}
+use Rattle.codec_pages.specs.Frames.{over_limits, mux_of, body_of, frame_of}
 use Rattle.codec_pages.specs.Table.{number_at}
 use Rattle.codec_pages.specs.Told.{report_mux, request_mux, told_report, told_request, told_built}
 use Rattle.codec_pages.specs.Conditions.{report_conditions, request_conditions, table_report, table_request, report_build_conditions, request_build_conditions}
@@ -30,24 +29,24 @@ pub record Limits (f : Frame) : Type 0 where
 
 -- ---- answered or refused
 
--- A frame to be built: refused as the conditions say, and blank then; where none holds it is this one.
-pub record Builds (b : Built) (cs : List Condition) (f : Frame) : Type 0 where
+-- A frame to be built: refused as the conditions say, by the number alone; where none holds it is this one.
+pub record Builds (b : Result Frame Refusal) (cs : List Condition) (f : Frame) : Type 0 where
   pub refused : (n : ℕ) → told_built b ≡ refusal n ↔ First n cs
-  pub nothing : (n : ℕ) → First n cs → b.frame ≡ blank
-  pub built : None cs → b ≡ as_built f
+  pub nothing : (n : ℕ) → First n cs → (why : Refusal) × ((b ≡ Err why) × (number_of why ≡ n))
+  pub built : NoneHolds cs → b ≡ Ok f
 
 -- a word of 01 to 0B is built on every identifier that the limits allow, whatever the word
 abbrev pub WordsBuilt : Type 0
-WordsBuilt = (k : Kind) (identifier mux word : ℕ) → identifier ≤ 0x1FFFFFFF → 0x01 ≤ mux → mux ≤ 0x0B → build_report k identifier (Word mux word) ≡ as_built (frame_of identifier (body_of (report_bytes k (Word mux word))))
+WordsBuilt = (k : Kind) (identifier mux word : ℕ) → identifier ≤ 0x1FFFFFFF → 0x01 ≤ mux → mux ≤ 0x0B → build_report k identifier (Word mux word) ≡ Ok (frame_of identifier (body_of (report_bytes k (Word mux word))))
 
 -- ---- there and back
 
 -- "Built frames read back as the same values."
 abbrev pub ReportReadsBack : Type 0
-ReportReadsBack = (k : Kind) (identifier : ℕ) (r : Report) (f : Frame) → HeldReport r → build_report k identifier r ≡ as_built f → read_report k identifier f ≡ Read r
+ReportReadsBack = (k : Kind) (identifier : ℕ) (r : Report) (f : Frame) → HeldReport r → build_report k identifier r ≡ Ok f → read_report k identifier f ≡ Ok r
 
 abbrev pub RequestReadsBack : Type 0
-RequestReadsBack = (k : Kind) (identifier : ℕ) (r : Request) (f : Frame) → HeldRequest r → build_request k identifier r ≡ as_built f → read_request k identifier f ≡ Asked r
+RequestReadsBack = (k : Kind) (identifier : ℕ) (r : Request) (f : Frame) → HeldRequest r → build_request k identifier r ≡ Ok f → read_request k identifier f ≡ Ok r
 
 -- the frame with zeros from a place on
 abbrev pub cleared : ℕ → Frame → Frame
@@ -56,17 +55,17 @@ cleared place f = record { extended = f.extended; identifier = f.identifier; len
 -- "A read frame builds back the same frame, except that SIM100 E5 gets zeros in 3-7 and a SIM101 request in 1-2." Bytes past
 -- the length are no part of the frame.
 abbrev pub ReportBuildsBack : Type 0
-ReportBuildsBack = (k : Kind) (expected : ℕ) (f : Frame) (r : Report) → HeldFrame f → read_report k expected f ≡ Read r → build_report k expected r ≡ as_built (cleared (cond (is_sim100 k && eqb (mux_of f) 0xE5) 3 f.length) f)
+ReportBuildsBack = (k : Kind) (expected : ℕ) (f : Frame) (r : Report) → HeldFrame f → read_report k expected f ≡ Ok r → build_report k expected r ≡ Ok (cleared (cond (is_sim100 k && eqb (mux_of f) 0xE5) 3 f.length) f)
 
 abbrev pub RequestBuildsBack : Type 0
-RequestBuildsBack = (k : Kind) (expected : ℕ) (f : Frame) (r : Request) → HeldFrame f → read_request k expected f ≡ Asked r → build_request k expected r ≡ as_built (cleared (cond (is_sim100 k) f.length 1) f)
+RequestBuildsBack = (k : Kind) (expected : ℕ) (f : Frame) (r : Request) → HeldFrame f → read_request k expected f ≡ Ok r → build_request k expected r ≡ Ok (cleared (cond (is_sim100 k) f.length 1) f)
 
 -- "Bytes past the length are ignored on reading [..]": with zeros there, and in the two places above, the same is read
 abbrev pub ReportPastLength : Type 0
-ReportPastLength = (k : Kind) (expected : ℕ) (f : Frame) (r : Report) → HeldFrame f → HeldReport r → read_report k expected f ≡ Read r → read_report k expected (cleared (cond (is_sim100 k && eqb (mux_of f) 0xE5) 3 f.length) f) ≡ Read r
+ReportPastLength = (k : Kind) (expected : ℕ) (f : Frame) (r : Report) → HeldFrame f → HeldReport r → read_report k expected f ≡ Ok r → read_report k expected (cleared (cond (is_sim100 k && eqb (mux_of f) 0xE5) 3 f.length) f) ≡ Ok r
 
 abbrev pub RequestPastLength : Type 0
-RequestPastLength = (k : Kind) (expected : ℕ) (f : Frame) (r : Request) → HeldFrame f → HeldRequest r → read_request k expected f ≡ Asked r → read_request k expected (cleared (cond (is_sim100 k) f.length 1) f) ≡ Asked r
+RequestPastLength = (k : Kind) (expected : ℕ) (f : Frame) (r : Request) → HeldFrame f → HeldRequest r → read_request k expected f ≡ Ok r → read_request k expected (cleared (cond (is_sim100 k) f.length 1) f) ≡ Ok r
 
 -- ---- the promise
 

@@ -1,23 +1,19 @@
 -- Reports: what each row of the table says, read from a frame's bytes.
-use Rattle.std.specs.Prelude.{ℕ, ◌/◌, ◌%◌, Bool, true, false, not, cond, ◌&&◌, ◌||◌, List, eqb, ℤ, pos, get_or}
+use Rattle.std.specs.Prelude.{ℕ, ◌/◌, ◌%◌, Bool, true, false, ◌&&◌, ◌||◌, List, eqb, ℤ, pos, get_or, Result}
 use Rattle.words.specs.Signed.{signed_of}
-use Rattle.refusal.specs.declared.Refusal.TheVariants.{WrongLength, WrongStatus}
+use Rattle.refusal.specs.declared.Refusal.{Refusal}
 use Rattle.codec_pages.specs.declared.frame.Frame.{Frame}
 use Rattle.codec_pages.specs.declared.rows.Kind.{Kind}
 use Rattle.codec_pages.specs.declared.rows.Kind.TheVariants.{Sim100, Sim101}
 use Rattle.codec_pages.specs.declared.rows.Row.{Row}
 use Rattle.codec_pages.specs.declared.rows.Row.TheVariants.{MuxE0, MuxE1, MuxE2, MuxE3, MuxE4, MuxE5, Mux01To0B, Mux80, MuxF0}
-use Rattle.codec_pages.specs.declared.rows.Lookup.{Lookup}
-use Rattle.codec_pages.specs.declared.rows.Lookup.TheVariants.{Listed, Refused as Unlisted}
 use Rattle.codec_pages.specs.declared.report.Estimates.{Estimates}
 use Rattle.codec_pages.specs.declared.report.Voltages.{Voltages}
 use Rattle.codec_pages.specs.declared.report.Battery.{Battery}
 use Rattle.codec_pages.specs.declared.report.ErrorFlags.{ErrorFlags}
 use Rattle.codec_pages.specs.declared.report.Report.{Report}
 use Rattle.codec_pages.specs.declared.report.Report.TheVariants.{IsolationState, Resistances, Capacitances, PoleVoltages, BatteryVoltage, Errors, Word, Temperature, WorkingVoltage}
-use Rattle.codec_pages.specs.declared.report.ReportReading.{ReportReading}
-use Rattle.codec_pages.specs.declared.report.ReportReading.TheVariants.{Read, Refused}
-use Rattle.codec_pages.specs.Table.{number_at, frame_row}
+use Rattle.codec_pages.specs.Table.{number_at, read}
 
 -- ---- status
 
@@ -75,16 +71,6 @@ report_of k Mux01To0B b = Word (get_or b 0 0) (number_at b 1 4)
 report_of k Mux80 b = Temperature (signed_of 32 (number_at b 1 4))
 report_of k MuxF0 b = WorkingVoltage (number_at b 1 2)
 
--- 4: "wrong length for the multiplexer", then 5
-abbrev pub read_row : Kind → Row → ℕ → Frame → ReportReading
-read_row k row length f =
-    cond (not (eqb f.length length)) (Refused WrongLength)
-    (cond (wrong_status k row (get_or f.bytes 1 0)) (Refused WrongStatus) (Read (report_of k row f.bytes)))
-
-abbrev pub report_in : Kind → Frame → Lookup → ReportReading
-report_in k f (Unlisted why) = Refused why
-report_in k f (Listed row report request) = read_row k row report f
-
 -- "Reading a report: 1, 2, 3, 4, 5."
-unfoldable pub read_report : Kind → ℕ → Frame → ReportReading
-read_report k expected f = report_in k f (frame_row k expected f)
+unfoldable pub read_report : Kind → ℕ → Frame → Result Report Refusal
+read_report k expected f = read (λ l. l.report) (wrong_status k) (report_of k) k expected f

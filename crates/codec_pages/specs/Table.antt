@@ -10,28 +10,24 @@
 --     01-0B    5        one 32-bit word (part name, version, serial)
 --     80       5        SIM101 only: temperature in thousandths of a degree, signed 32 bits
 --     F0       3        SIM100 only: working voltage, request and report alike
-use Rattle.std.specs.Prelude.{ℕ, zero, suc, ◌+◌, ◌*◌, Bool, true, false, not, cond, ◌&&◌, List, [], ◌∷◌, ◌++◌, leb, eqb, ℤ, pos, get_or, take}
+use Rattle.std.specs.Prelude.{ℕ, ◌*◌, Bool, true, false, not, cond, ◌&&◌, List, [], ◌∷◌, ◌++◌, leb, eqb, ℤ, pos, get_or, take, Result, Ok, Err}
 use Rattle.std.proofs.Math.Option.{Option, none, some}
 use Rattle.words.specs.declared.Order.{Order}
 use Rattle.words.specs.declared.Order.TheVariants.{Big}
+pub use Rattle.words.specs.Words.{part}
 use Rattle.words.specs.Words.{word_of}
 use Rattle.words.specs.Signed.{signed_of}
-use Rattle.refusal.specs.declared.Refusal.TheVariants.{OverLimits, NotExpected, NotListed}
+use Rattle.refusal.specs.declared.Refusal.{Refusal}
+use Rattle.refusal.specs.declared.Refusal.TheVariants.{OverLimits, NotExpected, NotListed, WrongLength, WrongStatus}
 use Rattle.codec_pages.specs.declared.frame.Frame.{Frame}
 use Rattle.codec_pages.specs.declared.rows.Kind.{Kind}
 use Rattle.codec_pages.specs.declared.rows.Kind.TheVariants.{Sim100, Sim101}
 use Rattle.codec_pages.specs.declared.rows.Row.{Row}
 use Rattle.codec_pages.specs.declared.rows.Row.TheVariants.{MuxE0, MuxE1, MuxE2, MuxE3, MuxE4, MuxE5, Mux01To0B, Mux80, MuxF0}
-use Rattle.codec_pages.specs.declared.rows.Lookup.{Lookup}
-use Rattle.codec_pages.specs.declared.rows.Lookup.TheVariants.{Refused, Listed}
+use Rattle.codec_pages.specs.declared.rows.Listed.{Listed}
 use Rattle.codec_pages.specs.Frames.{over_limits, not_expected, mux_of}
 
 -- ---- fields
-
--- the bytes from a place on, as many as the width says
-abbrev pub part : List ℕ → ℕ → ℕ → List ℕ
-part bytes place zero = []
-part bytes place (suc width) = get_or bytes place 0 ∷ part bytes (place + 1) width
 
 -- the number at a place of a block or a message, most significant byte first
 abbrev pub number_at : List ℕ → ℕ → ℕ → ℕ
@@ -127,12 +123,15 @@ entry_in (e ∷ es) mux = cond (covers e mux) (some e) (entry_in es mux)
 unfoldable pub entry_of : Kind → ℕ → Option Entry
 entry_of k mux = entry_in (report_table k) mux
 
--- 3: "a multiplexer not listed for that device kind"
-abbrev pub as_row : Option Entry → Lookup
-as_row none = Refused NotListed
-as_row (some e) = Listed e.row e.report e.request
+abbrev pub listed : Row → ℕ → ℕ → Listed
+listed row report request = record { row = row; report = report; request = request }
 
-abbrev pub row_of : Kind → ℕ → Lookup
+-- 3: "a multiplexer not listed for that device kind"
+abbrev pub as_row : Option Entry → Result Listed Refusal
+as_row none = Err NotListed
+as_row (some e) = Ok (listed e.row e.report e.request)
+
+abbrev pub row_of : Kind → ℕ → Result Listed Refusal
 row_of k mux = as_row (entry_of k mux)
 
 -- the row of one of E0 to E5, which are the first six entries of either kind
@@ -157,19 +156,30 @@ is_word Mux80 = false
 is_word MuxF0 = false
 
 -- what was found is not the entry of the words
-abbrev pub no_word : Lookup → Bool
-no_word (Refused why) = true
-no_word (Listed row report request) = not (is_word row)
-
--- nothing was found
-abbrev pub is_refused : Lookup → Bool
-is_refused (Refused why) = true
-is_refused (Listed row report request) = false
+abbrev pub no_word : Result Listed Refusal → Bool
+no_word (Err why) = true
+no_word (Ok l) = not (is_word l.row)
 
 -- ---- the row of a frame: 1, 2, 3 in that order, and 3 also for length 0
 
-abbrev pub frame_row : Kind → ℕ → Frame → Lookup
+abbrev pub frame_row : Kind → ℕ → Frame → Result Listed Refusal
 frame_row k expected f =
-    cond (over_limits f) (Refused OverLimits)
-    (cond (not_expected expected f) (Refused NotExpected)
-    (cond (eqb f.length 0) (Refused NotListed) (row_of k (mux_of f))))
+    cond (over_limits f) (Err OverLimits)
+    (cond (not_expected expected f) (Err NotExpected)
+    (cond (eqb f.length 0) (Err NotListed) (row_of k (mux_of f))))
+
+-- ---- what a frame is read as, a report or a request: by the length that its row asks for, by the rows and status bytes that are wrong,
+-- and by what the bytes of a row say
+
+-- 4: "wrong length for the multiplexer", then 5
+abbrev pub read_listed : {A : Type 0} → (Listed → ℕ) → (Row → ℕ → Bool) → (Row → List ℕ → A) → Frame → Listed → Result A Refusal
+read_listed length_of wrong says f l =
+    cond (not (eqb f.length (length_of l))) (Err WrongLength)
+    (cond (wrong l.row (get_or f.bytes 1 0)) (Err WrongStatus) (Ok (says l.row f.bytes)))
+
+abbrev pub read_row : {A : Type 0} → (Listed → ℕ) → (Row → ℕ → Bool) → (Row → List ℕ → A) → Frame → Result Listed Refusal → Result A Refusal
+read_row length_of wrong says f (Err why) = Err why
+read_row length_of wrong says f (Ok l) = read_listed length_of wrong says f l
+
+abbrev pub read : {A : Type 0} → (Listed → ℕ) → (Row → ℕ → Bool) → (Row → List ℕ → A) → Kind → ℕ → Frame → Result A Refusal
+read length_of wrong says k expected f = read_row length_of wrong says f (frame_row k expected f)

@@ -1,20 +1,13 @@
 -- What is told on paper: for each case of an enum that a call gives, document 01's number and values.
-use Rattle.std.specs.Prelude.{ℕ, List, [], ◌∷◌, map, ℤ, pos, take}
-use Rattle.refusal.specs.Refusals.{number_of}
-use Rattle.refusal.specs.Conditions.{Told, refusal, good}
+use Rattle.std.specs.Prelude.{ℕ, List, [], ◌∷◌, map, ℤ, pos, take, Result}
+use Rattle.refusal.specs.declared.Refusal.{Refusal}
+use Rattle.refusal.specs.Conditions.{Told, told}
 use Rattle.codec_pages.specs.declared.frame.Frame.{Frame}
-use Rattle.codec_pages.specs.declared.frame.Built.{Built}
-use Rattle.refusal.specs.declared.Acceptance.{Acceptance}
-use Rattle.refusal.specs.declared.Acceptance.TheVariants.{Accepted, Refused as NotBuilt}
 use Rattle.codec_pages.specs.declared.report.Estimates.{Estimates}
 use Rattle.codec_pages.specs.declared.report.Report.{Report}
 use Rattle.codec_pages.specs.declared.report.Report.TheVariants.{IsolationState, Resistances, Capacitances, PoleVoltages, BatteryVoltage, Errors, Word, Temperature, WorkingVoltage}
-use Rattle.codec_pages.specs.declared.report.ReportReading.{ReportReading}
-use Rattle.codec_pages.specs.declared.report.ReportReading.TheVariants.{Read, Refused}
 use Rattle.codec_pages.specs.declared.request.Request.{Request}
 use Rattle.codec_pages.specs.declared.request.Request.TheVariants.{ReadIsolationState, ReadResistances, ReadCapacitances, ReadVoltages, ReadBattery, ReadErrorFlags, ReadWord, ReadTemperature, SetWorkingVoltage}
-use Rattle.codec_pages.specs.declared.request.RequestReading.{RequestReading}
-use Rattle.codec_pages.specs.declared.request.RequestReading.TheVariants.{Read as Asked, Refused as NotAsked}
 
 -- a multiplexer with its values in the order of the table; of a frame, its identifier with its bytes
 abbrev pub Values : Type 0
@@ -47,9 +40,8 @@ report_values (Word mux w) = pos w ∷ []
 report_values (Temperature z) = z ∷ []
 report_values (WorkingVoltage v) = pos v ∷ []
 
-abbrev pub told_report : ReportReading → Told Values
-told_report (Read r) = good (report_mux r, report_values r)
-told_report (Refused why) = refusal (number_of why)
+abbrev pub told_report : Result Report Refusal → Told Values
+told_report = told (λ r. (report_mux r, report_values r))
 
 -- ---- requests
 
@@ -75,15 +67,10 @@ request_values (ReadWord mux) = []
 request_values ReadTemperature = []
 request_values (SetWorkingVoltage v) = pos v ∷ []
 
-abbrev pub told_request : RequestReading → Told Values
-told_request (Asked r) = good (request_mux r, request_values r)
-told_request (NotAsked why) = refusal (number_of why)
+abbrev pub told_request : Result Request Refusal → Told Values
+told_request = told (λ r. (request_mux r, request_values r))
 
 -- ---- frames that were built: the identifier and the bytes, as a listing shows them
 
-abbrev pub told_frame : Acceptance → Frame → Told Values
-told_frame Accepted f = good (f.identifier, map pos (take f.length f.bytes))
-told_frame (NotBuilt why) f = refusal (number_of why)
-
-abbrev pub told_built : Built → Told Values
-told_built b = told_frame b.acceptance b.frame
+abbrev pub told_built : Result Frame Refusal → Told Values
+told_built = told (λ f. (f.identifier, map pos (take f.length f.bytes)))

@@ -1,8 +1,7 @@
-// Frames, and what a built one is.
-use refusal::Acceptance;
+// Frames.
 
 // A frame as it came: any number may stand in any field. Bytes past the length are no part of the frame.
-#[derive(Clone, Copy)]
+#[derive(Clone, Copy, PartialEq, Eq)]
 pub struct Frame {
     pub length: u8,
     pub extended: bool,
@@ -11,15 +10,8 @@ pub struct Frame {
 }
 
 // What a frame carries: how many bytes, and the bytes, zero past them.
-#[derive(Clone, Copy)]
+#[derive(Clone, Copy, PartialEq, Eq)]
 pub struct Body {
     pub length: u8,
     pub bytes: [u8; 8],
-}
-
-// A frame that was built, or why there is none: the frame is then blank.
-#[derive(Clone, Copy)]
-pub struct Built {
-    pub acceptance: Acceptance,
-    pub frame: Frame,
 }

@@ -2,7 +2,7 @@
 // what a frame, a report and a request are, the report table, what is read and built, when it is refused, and what
 // is promised of all that.
 //
-//     frame    what a frame is, and what a built one is
+//     frame    what a frame is
 //     rows     document 01's report table: the device kinds and its rows
 //     report   what a report says
 //     request  what a request asks

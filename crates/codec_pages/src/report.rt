@@ -1,8 +1,6 @@
 // What a report of a device says. Document 01 lists each in its report table.
-use refusal::Refusal;
-
 // Two values, each with its uncertainty in percent. The report says which two they are.
-#[derive(Clone, Copy)]
+#[derive(Clone, Copy, PartialEq, Eq)]
 pub struct Estimates {
     pub status: u8,
     pub first: u16,
@@ -12,7 +10,7 @@ pub struct Estimates {
 }
 
 // A voltage is held wide enough for both kinds: 0 to 65,535 for SIM100, -32,768 to 32,767 for SIM101.
-#[derive(Clone, Copy)]
+#[derive(Clone, Copy, PartialEq, Eq)]
 pub struct Voltages {
     pub status: u8,
     pub vp: i32,
@@ -22,7 +20,7 @@ pub struct Voltages {
 }
 
 // Only Vb is signed for SIM101.
-#[derive(Clone, Copy)]
+#[derive(Clone, Copy, PartialEq, Eq)]
 pub struct Battery {
     pub status: u8,
     pub vb: i32,
@@ -32,13 +30,13 @@ pub struct Battery {
 }
 
 // A SIM101 has 16 flags, a SIM100 eight.
-#[derive(Clone, Copy)]
+#[derive(Clone, Copy, PartialEq, Eq)]
 pub struct ErrorFlags {
     pub status: u8,
     pub flags: u16,
 }
 
-#[derive(Clone, Copy)]
+#[derive(Clone, Copy, PartialEq, Eq)]
 pub enum Report {
     // E0: electrical isolation in Ohm/V, and the energy stored in mJ.
     IsolationState(Estimates),
@@ -58,10 +56,4 @@ pub enum Report {
     Temperature(i32),
     // F0: in V.
     WorkingVoltage(u16),
-}
-
-#[derive(Clone, Copy)]
-pub enum ReportReading {
-    Read(Report),
-    Refused(Refusal),
 }

@@ -1,7 +1,6 @@
 // What a request of a host asks. The multiplexers are those of the report table.
-use refusal::Refusal;
 
-#[derive(Clone, Copy)]
+#[derive(Clone, Copy, PartialEq, Eq)]
 pub enum Request {
     ReadIsolationState,
     ReadResistances,
@@ -13,10 +12,4 @@ pub enum Request {
     ReadWord(u8),
     ReadTemperature,
     SetWorkingVoltage(u16),
-}
-
-#[derive(Clone, Copy)]
-pub enum RequestReading {
-    Read(Request),
-    Refused(Refusal),
 }

@@ -1,14 +1,13 @@
 // Document 01's report table: the device kinds, its rows, and what is found in it.
-use refusal::Refusal;
 
-#[derive(Clone, Copy)]
+#[derive(Clone, Copy, PartialEq, Eq)]
 pub enum Kind {
     Sim100,
     Sim101,
 }
 
 // A row of the table, named by its first column.
-#[derive(Clone, Copy)]
+#[derive(Clone, Copy, PartialEq, Eq)]
 pub enum Row {
     MuxE0,
     MuxE1,
@@ -21,9 +20,10 @@ pub enum Row {
     MuxF0,
 }
 
-// The row with the lengths of report and request, or the refusal.
-#[derive(Clone, Copy)]
-pub enum Lookup {
-    Refused(Refusal),
-    Listed { row: Row, report: u8, request: u8 },
+// A row that a multiplexer is listed in, with the lengths of report and request.
+#[derive(Clone, Copy, PartialEq, Eq)]
+pub struct Listed {
+    pub row: Row,
+    pub report: u8,
+    pub request: u8,
 }

@@ -7,8 +7,7 @@ use codec_pages::frame::Frame;
 use codec_pages::report::{Battery, ErrorFlags, Estimates, Voltages};
 use codec_pages::rows::Kind;
 use words::Order;
-use words::twos::signed16;
-use words::word::{word16, word32};
+use words::word::{Word, word_at};
 
 pub(crate) fn estimates_in(f: Frame) -> Estimates
     ensures { result ≡ estimates_in f.bytes }
@@ -16,9 +15,9 @@ pub(crate) fn estimates_in(f: Frame) -> Estimates
     let b = f.bytes;
     Estimates {
         status: b[1],
-        first: word16(Order::Big, b[2], b[3]),
+        first: word_at(Order::Big, &b, 2),
         first_uncertainty: b[4],
-        second: word16(Order::Big, b[5], b[6]),
+        second: word_at(Order::Big, &b, 5),
         second_uncertainty: b[7],
     }
 }
@@ -29,7 +28,7 @@ fn voltage_of(kind: Kind, n: u16) -> i32
 {
     match kind {
         Kind::Sim100 => n as i32,
-        Kind::Sim101 => signed16(n),
+        Kind::Sim101 => n.signed(),
     }
 }
 
@@ -70,7 +69,7 @@ pub(crate) fn flags_in(kind: Kind, f: Frame) -> ErrorFlags
         },
         Kind::Sim101 => ErrorFlags {
             status: b[1],
-            flags: word16(Order::Big, b[2], b[3]),
+            flags: word_at(Order::Big, &b, 2),
         },
     }
 }
@@ -78,6 +77,5 @@ pub(crate) fn flags_in(kind: Kind, f: Frame) -> ErrorFlags
 pub(crate) fn word_in(f: Frame) -> u32
     ensures { result ≡ number_at f.bytes 1 4 }
 {
-    let b = f.bytes;
-    word32(Order::Big, b[1], b[2], b[3], b[4])
+    word_at(Order::Big, &f.bytes, 1)
 }

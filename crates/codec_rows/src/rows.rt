@@ -1,12 +1,11 @@
 // The rows of document 01's report table: which multiplexers a device kind has, with the lengths of report and request.
-ghost use Rattle.std.specs.Prelude.{◌≡◌};
-ghost use Rattle.codec_pages.specs.Table.{row_of, measurement_row, frame_row};
+ghost use Rattle.std.specs.Prelude.{◌≡◌, Ok};
+ghost use Rattle.codec_pages.specs.Table.{listed, row_of, measurement_row, frame_row};
 ghost use Rattle.codec_pages.specs.declared.rows.Kind.{Kind};
-ghost use Rattle.codec_pages.specs.declared.rows.Lookup.{Lookup};
 
 use crate::limits::{not_expected, over_limits};
 use codec_pages::frame::Frame;
-use codec_pages::rows::{Kind, Lookup, Row};
+use codec_pages::rows::{Kind, Listed, Row};
 use refusal::Refusal;
 
 // The row of one of E0 to E5.
@@ -23,30 +22,30 @@ fn measurement_row(mux: u8) -> Row
     }
 }
 
-fn listed(row: Row, report: u8, request: u8) -> Lookup
-    ensures { result ≡ Lookup.Listed row report request }
+fn listed(row: Row, report: u8, request: u8) -> Result<Listed, Refusal>
+    ensures { result ≡ Ok (listed row report request) }
 {
-    Lookup::Listed {
+    Ok(Listed {
         row,
         report,
         request,
-    }
+    })
 }
 
 #[tactic(auto, using(crate::proofs::Ranges::rows))]
-fn sim100_row(mux: u8) -> Lookup
+fn sim100_row(mux: u8) -> Result<Listed, Refusal>
     ensures { result ≡ row_of Kind.Sim100 mux }
 {
     match mux {
         0xF0 => listed(Row::MuxF0, 3, 3),
         0x01..=0x0B => listed(Row::Mux01To0B, 5, 1),
         0xE0..=0xE5 => listed(measurement_row(mux), 8, 1),
-        _ => Lookup::Refused(Refusal::NotListed),
+        _ => Err(Refusal::NotListed),
     }
 }
 
 #[tactic(auto, using(crate::proofs::Ranges::rows))]
-fn sim101_row(mux: u8) -> Lookup
+fn sim101_row(mux: u8) -> Result<Listed, Refusal>
     ensures { result ≡ row_of Kind.Sim101 mux }
 {
     match mux {
@@ -54,12 +53,12 @@ fn sim101_row(mux: u8) -> Lookup
         0xE5 => listed(Row::MuxE5, 4, 3),
         0x01..=0x0B => listed(Row::Mux01To0B, 5, 3),
         0xE0..=0xE5 => listed(measurement_row(mux), 8, 3),
-        _ => Lookup::Refused(Refusal::NotListed),
+        _ => Err(Refusal::NotListed),
     }
 }
 
 // Refusal 3 where the kind does not list the multiplexer.
-pub fn row_of(kind: Kind, mux: u8) -> Lookup
+pub fn row_of(kind: Kind, mux: u8) -> Result<Listed, Refusal>
     ensures { result ≡ row_of kind mux }
 {
     match kind {
@@ -69,18 +68,17 @@ pub fn row_of(kind: Kind, mux: u8) -> Lookup
 }
 
 // The row that a frame is to be read by: refusals 1, 2 and 3.
-pub fn frame_row(kind: Kind, expected: u32, f: Frame) -> Lookup
+pub fn frame_row(kind: Kind, expected: u32, f: Frame) -> Result<Listed, Refusal>
     ensures { result ≡ frame_row kind expected f }
 {
     if over_limits(f) {
-        return Lookup::Refused(Refusal::OverLimits);
+        return Err(Refusal::OverLimits);
     }
     if not_expected(expected, f) {
-        return Lookup::Refused(Refusal::NotExpected);
+        return Err(Refusal::NotExpected);
     }
-    let empty = f.length == 0;
-    if empty {
-        return Lookup::Refused(Refusal::NotListed);
+    if f.length == 0 {
+        return Err(Refusal::NotListed);
     }
     row_of(kind, f.bytes[0])
 }

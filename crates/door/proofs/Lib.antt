@@ -1,3 +1,2 @@
 -- Laws of the door.
-pub mod Turns
 pub mod Reading

@@ -1,19 +1,11 @@
--- What a read puts at a place of a buffer ends within the buffer, and what one read after another put there is what they consumed. Assumes nothing.
-use native.Mathlib.Omega.{arith}
-use lib.ListN.{length-drop}
-use Rattle.std.proofs.Common.{ℕ, ◌+◌, ◌-◌, ◌≤◌, List, ◌++◌, length, take, drop, sym, ap, subst, ◌∙◌, le_refl, drop_at, length-take-le}
+-- What one read after another put into a buffer is what they consumed. Assumes nothing.
+use Rattle.std.proofs.Common.{ℕ, ◌+◌, ◌≤◌, List, ◌++◌, length, take, drop, sym, ap, subst, ◌∙◌, le_refl, drop_at, length-take-le}
 use Rattle.std.specs.Prelude.{Option}
 use Rattle.std.specs.Io.KnownBytes.{Consumes}
 use Rattle.std.proofs.KnownBytes.{Consumes-trans}
 use Rattle.std.proofs.lemmas.Slice.{take-put_mid_below}
 use borrow.Rule.Slice.PartMut.{put_mid, post_of}
 use lib.Seq.{take-add, take-append-le}
-
-pub reach : (xs : List ℕ) (n m : ℕ) → n ≤ length xs → m ≤ length (take (length xs - n) (drop n xs)) → n + m ≤ length xs
-reach xs n m h k =
-    let d = length-drop n xs in
-    let t = length-take-le (length xs - n) (drop n xs) (omega (arith, d)) in
-    omega (arith, h, k, t)
 
 -- n bytes stand at the front of xs, and m at the front of ys, which is put behind them
 pub filled : (a b c : Option (List ℕ)) (n k m : ℕ) (xs ys : List ℕ) → n ≤ length xs → m ≤ length ys

@@ -3,46 +3,53 @@
 ghost use Rattle.std.specs.Prelude.{◌≡◌};
 ghost use Rattle.door.specs.Turns.{begun, gone_on, next_if};
 
-use crate::{Input, LastWord};
+use crate::{LastWord, ReadFailed, WriteFailed};
+use std::ops::ControlFlow;
 
-#[derive(Clone, Copy)]
-pub enum Turn {
-    Next,
-    Over(LastWord),
+// A program that answers a row of questions.
+pub trait Answers {
+    // Reads the next question and answers it; breaks with the last word where there is none, and where it could not
+    // be read or answered.
+    fn answer_next(&mut self) -> ControlFlow<LastWord>;
+
+    // Answers question after question, up to the last word.
+    fn answer_all(&mut self) -> LastWord {
+        for _ in 0..u64::MAX {
+            if let ControlFlow::Break(word) = self.answer_next() {
+                return word;
+            }
+        }
+        LastWord::Cut
+    }
 }
 
 // After the first bytes of a question were read, which has so many: the input may end before it, and nowhere in it.
-pub fn begin(input: Input, whole: usize) -> Turn
-    ensures { result ≡ begun input.failed input.n whole }
+pub fn begin(input: Result<usize, ReadFailed>, whole: usize) -> ControlFlow<LastWord>
+    ensures { result ≡ begun input whole }
 {
-    let ended = !input.failed & (input.n == 0);
-    if ended {
-        return Turn::Over(LastWord::Complete);
+    match input {
+        Ok(0) => ControlFlow::Break(LastWord::Complete),
+        _ => go_on(input, whole),
     }
-    go_on(input, whole)
 }
 
 // After further bytes of the same question were read.
-pub fn go_on(input: Input, whole: usize) -> Turn
-    ensures { result ≡ gone_on input.failed input.n whole }
+pub fn go_on(input: Result<usize, ReadFailed>, whole: usize) -> ControlFlow<LastWord>
+    ensures { result ≡ gone_on input whole }
 {
-    let failed = input.failed;
-    if failed {
-        return Turn::Over(LastWord::Unread);
+    match input {
+        Ok(n) if n < whole => ControlFlow::Break(LastWord::Refused),
+        Ok(_) => ControlFlow::Continue(()),
+        Err(_) => ControlFlow::Break(LastWord::Unread),
     }
-    let short = input.n < whole;
-    if short {
-        return Turn::Over(LastWord::Refused);
-    }
-    Turn::Next
 }
 
 // After an answer: nothing follows one that could not be written.
-pub fn next_if(written: bool) -> Turn
+pub fn next_if(written: Result<(), WriteFailed>) -> ControlFlow<LastWord>
     ensures { result ≡ next_if written }
 {
-    if written {
-        return Turn::Next;
+    match written {
+        Ok(()) => ControlFlow::Continue(()),
+        Err(WriteFailed) => ControlFlow::Break(LastWord::Cut),
     }
-    Turn::Over(LastWord::Cut)
 }

@@ -6,16 +6,15 @@ use mathlib.Core.Bool.{true, false}
 use mathlib.Core.List.{List}
 use lib.ListN.{length, get_or}
 use borrow.Author.Tests.{le-ltb}
+use Rattle.std.specs.Prelude.{Result, Ok, Err}
 use Rattle.refusal.specs.declared.Refusal.{Refusal}
 use Rattle.refusal.specs.declared.Refusal.TheVariants.{ShortBuffer}
-use Rattle.refusal.specs.declared.Acceptance.{Acceptance}
-use Rattle.refusal.specs.declared.Acceptance.TheVariants.{Accepted, Refused}
-use Rattle.text.specs.declared.written.Written.{Written}
-use Rattle.text.specs.declared.written.Written.TheVariants.{Text, Refused as NotListed}
+use Rattle.std.specs.declared.result.Result.{Result}
+use Rattle.std.specs.declared.result.Result.TheVariants.{Ok, Err}
 use Rattle.text.specs.Put.{Put, place, last_place}
 use Rattle.text.specs.Written.{Fitted}
 use Rattle.text.proofs.Put.{place_within}
-use Rattle.text.proofs.Fitted.{short_refused as too_short, text_written, text_not_refused, refused_same as fitted-same}
+use Rattle.text.proofs.Fitted.{short_refused as too_short, text_written, refused_same as fitted-same}
 use Rattle.bench_log.specs.Layout.{count_of}
 use Rattle.bench_log.specs.Check.{checked}
 use Rattle.bench_log.proofs.Parts.{laid_out}
@@ -26,51 +25,51 @@ use Rattle.listing.proofs.Bounds.{listing_length}
 -- ---- lengths
 
 -- no listing is so long that places give out
-within : (s : List ℕ) → ((i : ℕ) → get_or s i 0 < 256) → checked s ≡ Accepted → length (listing_of s) ≤ last_place
+within : (s : List ℕ) → ((i : ℕ) → get_or s i 0 < 256) → checked s ≡ Ok tt → length (listing_of s) ≤ last_place
 within s bytes a =
     let l = listing_length s bytes a in
     let c = (laid_out s (sound s a).laid).count in
     omega (arith, l, c)
 
-pub whole_length : (s : List ℕ) → ((i : ℕ) → get_or s i 0 < 256) → checked s ≡ Accepted → place (length (listing_of s)) ≡ length (listing_of s)
+pub whole_length : (s : List ℕ) → ((i : ℕ) → get_or s i 0 < 256) → checked s ≡ Ok tt → place (length (listing_of s)) ≡ length (listing_of s)
 whole_length s bytes a = place_within (length (listing_of s)) (within s bytes a)
 
 -- a buffer of 46 bytes for each record and 57 is never short
-pub room_enough : (s : List ℕ) → ((i : ℕ) → get_or s i 0 < 256) → checked s ≡ Accepted → (room : ℕ) → 46 * count_of s + 57 ≤ room → is_short s room ≡ false
+pub room_enough : (s : List ℕ) → ((i : ℕ) → get_or s i 0 < 256) → checked s ≡ Ok tt → (room : ℕ) → 46 * count_of s + 57 ≤ room → is_short s room ≡ false
 room_enough s bytes a room h = let l = listing_length s bytes a in le-ltb room (length (listing_of s)) (omega (arith, l, h))
 
 -- ---- the answer, and what the buffer holds
 
-pub log_refused : (s held : List ℕ) (why : Refusal) → checked s ≡ Refused why → ListingAnswered s held (NotListed why) held
-log_refused s held why a = subst (λ (x : Acceptance). AnsweredBy x s held (NotListed why) held) (sym a) (record { answered = refl; holds = refl })
+pub log_refused : (s held : List ℕ) (why : Refusal) → checked s ≡ Err why → ListingAnswered s held (Err why) held
+log_refused s held why a = subst (λ (x : Result Unit Refusal). AnsweredBy x s held (Err why) held) (sym a) (record { answered = refl; holds = refl })
 
-fitted_answered : (s held after : List ℕ) (r : Written) → checked s ≡ Accepted → Fitted (listing_of s) held r after → ListingAnswered s held r after
-fitted_answered s held after r a x = subst (λ (y : Acceptance). AnsweredBy y s held r after) (sym a) x
+fitted_answered : (s held after : List ℕ) (r : Result ℕ Refusal) → checked s ≡ Ok tt → Fitted (listing_of s) held r after → ListingAnswered s held r after
+fitted_answered s held after r a x = subst (λ (y : Result Unit Refusal). AnsweredBy y s held r after) (sym a) x
 
-pub short_refused : (s held : List ℕ) → checked s ≡ Accepted → is_short s (length held) ≡ true → ListingAnswered s held (NotListed ShortBuffer) held
-short_refused s held a t = fitted_answered s held held (NotListed ShortBuffer) a (too_short (listing_of s) held t)
+pub short_refused : (s held : List ℕ) → checked s ≡ Ok tt → is_short s (length held) ≡ true → ListingAnswered s held (Err ShortBuffer) held
+short_refused s held a t = fitted_answered s held held (Err ShortBuffer) a (too_short (listing_of s) held t)
 
-pub listed : (s held after : List ℕ) (r : ℕ) → ((i : ℕ) → get_or s i 0 < 256) → checked s ≡ Accepted → is_short s (length held) ≡ false → Put held 0 (listing_of s) r after → ListingAnswered s held (Text r) after
-listed s held after r bytes a t p = fitted_answered s held after (Text r) a (text_written (listing_of s) held after r (within s bytes a) t p)
+pub listed : (s held after : List ℕ) (r : ℕ) → ((i : ℕ) → get_or s i 0 < 256) → checked s ≡ Ok tt → is_short s (length held) ≡ false → Put held 0 (listing_of s) r after → ListingAnswered s held (Ok r) after
+listed s held after r bytes a t p = fitted_answered s held after (Ok r) a (text_written (listing_of s) held after r (within s bytes a) t p)
 
 -- ---- an answer that is had
 
-pub answered_by : (a : Acceptance) (s held after : List ℕ) (r : Written) → AnsweredBy a s held r after → r ≡ answer_by a s (length held)
-answered_by Accepted s held after r x = x.answered
-answered_by (Refused why) s held after r x = x.answered
+pub answered_by : (a : Result Unit Refusal) (s held after : List ℕ) (r : Result ℕ Refusal) → AnsweredBy a s held r after → r ≡ answer_by a s (length held)
+answered_by (Ok u) s held after r x = x.answered
+answered_by (Err why) s held after r x = x.answered
 
-text_by_lem : (a : Acceptance) (s held after : List ℕ) (n : ℕ) → AnsweredBy a s held (Text n) after → (a ≡ Accepted) × Fitted (listing_of s) held (Text n) after
-text_by_lem Accepted s held after n x = (refl, x)
-text_by_lem (Refused why) s held after n x = text_not_refused n why x.answered
+text_by_lem : (a : Result Unit Refusal) (s held after : List ℕ) (n : ℕ) → AnsweredBy a s held (Ok n) after → (a ≡ Ok tt) × Fitted (listing_of s) held (Ok n) after
+text_by_lem (Ok u) s held after n x = (refl, x)
+text_by_lem (Err why) s held after n x = let e = x.answered in absurd (cc)
 
 -- a text is answered only of an accepted log
-pub text_fitted : (s held after : List ℕ) (n : ℕ) → ListingAnswered s held (Text n) after → (checked s ≡ Accepted) × Fitted (listing_of s) held (Text n) after
+pub text_fitted : (s held after : List ℕ) (n : ℕ) → ListingAnswered s held (Ok n) after → (checked s ≡ Ok tt) × Fitted (listing_of s) held (Ok n) after
 text_fitted s held after n x = text_by_lem (checked s) s held after n x
 
-same_by : (a : Acceptance) (s held after : List ℕ) (why : Refusal) → AnsweredBy a s held (NotListed why) after → after ≡ held
-same_by Accepted s held after why x = fitted-same (listing_of s) held after why x
-same_by (Refused w) s held after why x = x.holds
+same_by : (a : Result Unit Refusal) (s held after : List ℕ) (why : Refusal) → AnsweredBy a s held (Err why) after → after ≡ held
+same_by (Ok u) s held after why x = fitted-same (listing_of s) held after why x
+same_by (Err w) s held after why x = x.holds
 
 -- a refusal leaves the buffer as it came
-pub refused_same : (s held after : List ℕ) (why : Refusal) → ListingAnswered s held (NotListed why) after → after ≡ held
+pub refused_same : (s held after : List ℕ) (why : Refusal) → ListingAnswered s held (Err why) after → after ≡ held
 refused_same s held after why x = same_by (checked s) s held after why x

@@ -1,5 +1,6 @@
 -- Settings and messages keep their promise. Assumes nothing.
 use mathlib.Core.Path.{refl}
+use Rattle.codec_pages.specs.Frames.{frame_of, body_of}
 use Rattle.maintenance_pages.specs.Promise.{Promise}
 use Rattle.maintenance_pages.proofs.Messages.{heard_means, right_means}
 use Rattle.maintenance_pages.proofs.Told.{coded_code, says}
@@ -21,7 +22,7 @@ promise =
       accepted = accepted_means;
       equal_identifiers = equal_accepted;
       negative = negative;
-      sent = λ transmit bytes. record { sent = refl; extended = refl; identifier = refl; length = refl; bytes = refl };
+      sent = λ transmit bytes. (frame_of transmit (body_of bytes), record { sent = refl; extended = refl; identifier = refl; length = refl; bytes = refl });
       not_sent = refl;
       serial_built = serial_built;
       serial_words = serial_words;

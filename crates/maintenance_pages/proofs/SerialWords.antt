@@ -8,13 +8,15 @@ use native.Mathlib.Omega.{arith}
 use Rattle.words.specs.declared.Order.TheVariants.{Big}
 use Rattle.words.specs.Words.{Bytes}
 use Rattle.words.proofs.Words.{bytes_word}
-use Rattle.codec_pages.specs.declared.frame.Built.{Built}
+use Rattle.std.specs.Prelude.{Result}
+use Rattle.refusal.specs.declared.Refusal.{Refusal}
+use Rattle.codec_pages.specs.declared.frame.Frame.{Frame}
 use Rattle.codec_pages.specs.declared.rows.Kind.TheVariants.{Sim101}
 use Rattle.codec_pages.specs.Table.{part}
 use Rattle.codec_pages.proofs.Promise.{promise as codec}
 use Rattle.maintenance_pages.specs.declared.message.SerialWord.{SerialWord}
 use Rattle.maintenance_pages.specs.declared.message.SerialWord.TheVariants.{First, Second, Third, Last}
-use Rattle.maintenance_pages.specs.Messages.{sends, says, serial_mux, serial_place, serial_value}
+use Rattle.maintenance_pages.specs.Messages.{sends, built_frame, says, serial_mux, serial_place, serial_value}
 use Rattle.maintenance_pages.specs.Means.{serial_bytes}
 use Rattle.maintenance_pages.specs.Promise.{SerialBuilt, SerialWords}
 
@@ -27,7 +29,7 @@ listed Last = (lit≤ tt, lit≤ tt)
 
 pub serial_built : SerialBuilt
 serial_built transmit serial w h =
-    ap (λ (b : Built). sends b.frame) (codec.words_built Sim101 transmit (serial_mux w) (serial_value serial w) h (listed w).0 (listed w).1)
+    ap (λ (b : Result Frame Refusal). sends (built_frame b)) (codec.words_built Sim101 transmit (serial_mux w) (serial_value serial w) h (listed w).0 (listed w).1)
 
 byte_at : (bs : List ℕ) (i : ℕ) → Bytes bs → get_or bs i 0 < 256
 byte_at [] i h = omega arith

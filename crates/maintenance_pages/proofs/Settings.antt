@@ -9,8 +9,7 @@ use native.Mathlib.Omega.{arith}
 use Rattle.words.proofs.Tests.{at_most, below, equal, both, either, refuted}
 use Rattle.maintenance_pages.specs.declared.setting.Setting.{Setting}
 use Rattle.maintenance_pages.specs.declared.setting.Setting.TheVariants.{ReceiveId, TransmitId, Speed, Voltage, WarningLevel, FaultLevel}
-use Rattle.maintenance_pages.specs.declared.setting.Named.{Named}
-use Rattle.maintenance_pages.specs.declared.setting.Named.TheVariants.{Unknown, Known}
+use Rattle.std.specs.Prelude.{Option, Some, None}
 use Rattle.maintenance_pages.specs.declared.setting.Settings.{Settings}
 use Rattle.maintenance_pages.specs.Settings.{code, setting_of, legal, value_of, with_value}
 use Rattle.maintenance_pages.specs.Means.{Legal}
@@ -46,7 +45,7 @@ accepted_means rating k =
 
 -- ---- a code is one setting's
 
-pub known_code : (s : Setting) → setting_of (code s) ≡ Known s
+pub known_code : (s : Setting) → setting_of (code s) ≡ Some s
 known_code ReceiveId = refl
 known_code TransmitId = refl
 known_code Speed = refl
@@ -54,9 +53,9 @@ known_code Voltage = refl
 known_code WarningLevel = refl
 known_code FaultLevel = refl
 
-abbrev named : Named → Setting
-named Unknown = ReceiveId
-named (Known s) = s
+abbrev named : Option Setting → Setting
+named None = ReceiveId
+named (Some s) = s
 
 pub same_code : (k s : Setting) → code k ≡ code s → k ≡ s
 same_code k s q = ap named (sym (known_code k)) ∙ (ap (λ (c : ℕ). named (setting_of c)) q ∙ ap named (known_code s))

@@ -12,8 +12,7 @@ use Rattle.codec_pages.specs.declared.frame.Frame.{Frame}
 use Rattle.codec_pages.specs.Table.{number_at}
 use Rattle.maintenance_pages.specs.declared.setting.Setting.{Setting}
 use Rattle.maintenance_pages.specs.declared.setting.Setting.TheVariants.{ReceiveId, TransmitId, Speed, Voltage, WarningLevel, FaultLevel}
-use Rattle.maintenance_pages.specs.declared.setting.Named.{Named}
-use Rattle.maintenance_pages.specs.declared.setting.Named.TheVariants.{Unknown, Known}
+use Rattle.std.specs.Prelude.{Option, Some, None}
 use Rattle.maintenance_pages.specs.declared.message.SerialWord.{SerialWord}
 use Rattle.maintenance_pages.specs.declared.message.SerialWord.TheVariants.{First, Second, Third, Last}
 use Rattle.maintenance_pages.specs.declared.message.Message.{Message}
@@ -105,9 +104,9 @@ abbrev Held : Frame → Message → Type 0
 Held f x = is_other x ≡ false → Tells x f
 
 -- the code of the setting that a byte names
-abbrev Names : ℕ → Named → Type 0
-Names b Unknown = Unit
-Names b (Known s) = Coded s b
+abbrev Names : ℕ → Option Setting → Type 0
+Names b None = Unit
+Names b (Some s) = Coded s b
 
 names_in : (ss : List Setting) (b : ℕ) → Names b (setting_in ss b)
 names_in [] b = tt
@@ -116,13 +115,13 @@ names_in (s ∷ ss) b =
     (λ t. rw t ((coded_code s b).1 (eqb-true b (code s) t)))
     (λ t. rw t (names_in ss b))
 
-read_held : (f : Frame) (n : Named) → Names (byte f 0) n → f.length ≡ 1 → Held f (as_read n)
-read_held f Unknown c l o = false_true o
-read_held f (Known s) c l o = (l, c)
+read_held : (f : Frame) (n : Option Setting) → Names (byte f 0) n → f.length ≡ 1 → Held f (as_read n)
+read_held f None c l o = false_true o
+read_held f (Some s) c l o = (l, c)
 
-write_held : (f : Frame) (n : Named) → Names (byte f 0) n → f.length ≡ 5 → Held f (as_write n (number_at f.bytes 1 4))
-write_held f Unknown c l o = false_true o
-write_held f (Known s) c l o = (l, (c, refl))
+write_held : (f : Frame) (n : Option Setting) → Names (byte f 0) n → f.length ≡ 5 → Held f (as_write n (number_at f.bytes 1 4))
+write_held f None c l o = false_true o
+write_held f (Some s) c l o = (l, (c, refl))
 
 held_by : (f : Frame) (t : Bool) (x y : Message) → (t ≡ true → Held f x) → Held f y → Held f (cond t x y)
 held_by f true x y p q = p refl

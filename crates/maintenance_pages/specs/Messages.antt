@@ -1,23 +1,21 @@
 -- Messages: what a frame says to the monitor, and what the monitor says back.
-use Rattle.std.specs.Prelude.{ℕ, Bool, true, false, cond, ◌&&◌, ◌||◌, List, [], ◌∷◌, map, eqb, leb, get_or}
+use Rattle.std.specs.Prelude.{ℕ, Bool, false, cond, ◌&&◌, ◌||◌, List, [], ◌∷◌, map, eqb, leb, get_or, replicate, Option, Some, None, Result, Ok, Err}
 use Rattle.std.specs.Int.Bits.{bit_xor}
 use Rattle.words.specs.declared.Order.TheVariants.{Big}
+use Rattle.refusal.specs.declared.Refusal.{Refusal}
 use Rattle.words.specs.Words.{bytes_of}
 use Rattle.codec_pages.specs.declared.frame.Frame.{Frame}
 use Rattle.codec_pages.specs.declared.rows.Kind.TheVariants.{Sim101}
 use Rattle.codec_pages.specs.declared.report.Report.TheVariants.{Word}
-use Rattle.codec_pages.specs.Frames.{body_of, frame_of, blank}
+use Rattle.codec_pages.specs.Frames.{body_of, frame_of}
 use Rattle.codec_pages.specs.Table.{part, number_at}
 use Rattle.codec_pages.specs.Building.{build_report}
 use Rattle.maintenance_pages.specs.declared.setting.Setting.{Setting}
-use Rattle.maintenance_pages.specs.declared.setting.Named.{Named}
 use Rattle.maintenance_pages.specs.declared.setting.Settings.{Settings}
-use Rattle.maintenance_pages.specs.declared.setting.Named.TheVariants.{Unknown, Known}
 use Rattle.maintenance_pages.specs.declared.message.SerialWord.{SerialWord}
 use Rattle.maintenance_pages.specs.declared.message.SerialWord.TheVariants.{First, Second, Third, Last}
 use Rattle.maintenance_pages.specs.declared.message.Message.{Message}
 use Rattle.maintenance_pages.specs.declared.message.Message.TheVariants.{Other, Unlock, Commit, Answer, SerialRequest, Read, Write}
-use Rattle.maintenance_pages.specs.declared.message.Reply.{Reply}
 use Rattle.maintenance_pages.specs.Settings.{code, setting_of}
 
 -- ---- what a frame says. Bytes past its length are no part of it
@@ -46,14 +44,14 @@ abbrev pub word_asked : ℕ → SerialWord
 word_asked mux = cond (eqb mux 0x08) Last (cond (eqb mux 0x09) Third (cond (eqb mux 0x0A) Second First))
 
 -- "Read, length 1, a code below"
-abbrev pub as_read : Named → Message
-as_read Unknown = Other
-as_read (Known s) = Read s
+abbrev pub as_read : Option Setting → Message
+as_read None = Other
+as_read (Some s) = Read s
 
 -- "Write, length 5, code and a 32-bit value"
-abbrev pub as_write : Named → ℕ → Message
-as_write Unknown v = Other
-as_write (Known s) v = Write s v
+abbrev pub as_write : Option Setting → ℕ → Message
+as_write None v = Other
+as_write (Some s) v = Write s v
 
 unfoldable pub message : Frame → Message
 message f =
@@ -99,28 +97,28 @@ is_right serial f = same_seven (part f.bytes 1 7) (answer_to (challenge_of seria
 
 -- ---- what the monitor says, on a transmit identifier
 
-abbrev pub quiet : Reply
-quiet = record { sent = false; frame = blank }
+abbrev pub quiet : Option Frame
+quiet = None
 
-abbrev pub sends : Frame → Reply
-sends f = record { sent = true; frame = f }
+abbrev pub sends : Frame → Option Frame
+sends f = Some f
 
-abbrev pub says : ℕ → List ℕ → Reply
+abbrev pub says : ℕ → List ℕ → Option Frame
 says transmit bytes = sends (frame_of transmit (body_of bytes))
 
 -- "ACK is 41 43 4B, NAK is 4E 41 4B"
-abbrev pub ack : ℕ → Reply
+abbrev pub ack : ℕ → Option Frame
 ack transmit = says transmit (0x41 ∷ 0x43 ∷ 0x4B ∷ [])
 
-abbrev pub nak : ℕ → Reply
+abbrev pub nak : ℕ → Option Frame
 nak transmit = says transmit (0x4E ∷ 0x41 ∷ 0x4B ∷ [])
 
 -- "the challenge, 14 and seven bytes"
-abbrev pub challenged : ℕ → List ℕ → Reply
+abbrev pub challenged : ℕ → List ℕ → Option Frame
 challenged transmit serial = says transmit (0x14 ∷ challenge_of serial)
 
 -- "reply of length 5, the code and the draft value"
-abbrev pub shown : ℕ → Setting → ℕ → Reply
+abbrev pub shown : ℕ → Setting → ℕ → Option Frame
 shown transmit s v = says transmit (code s ∷ bytes_of Big 4 v)
 
 -- "08 the last four serial bytes, 0B the first four"
@@ -139,6 +137,14 @@ serial_place Last = 12
 abbrev pub serial_value : List ℕ → SerialWord → ℕ
 serial_value serial w = number_at serial (serial_place w) 4
 
+abbrev pub blank : Frame
+blank = record { extended = false; identifier = 0; length = 0; bytes = replicate 8 0 }
+
+-- the frame that the codec builds. It builds none on an identifier that the limits do not allow: the frame is blank then
+abbrev pub built_frame : Result Frame Refusal → Frame
+built_frame (Ok f) = f
+built_frame (Err why) = blank
+
 -- "its serial word": a report of the SIM101 table
-abbrev pub serial_report : ℕ → List ℕ → SerialWord → Reply
-serial_report transmit serial w = sends (build_report Sim101 transmit (Word (serial_mux w) (serial_value serial w))).frame
+abbrev pub serial_report : ℕ → List ℕ → SerialWord → Option Frame
+serial_report transmit serial w = sends (built_frame (build_report Sim101 transmit (Word (serial_mux w) (serial_value serial w))))

@@ -1,5 +1,5 @@
 -- What is promised of settings and messages, for every frame and every value there is. `proofs/Promise` proves it.
-use Rattle.std.specs.Prelude.{ℕ, ◌-◌, ◌<◌, ◌≤◌, ◌≡◌, true, false, List, ◌∷◌, ◌++◌, ◌↔◌, length as size, replicate}
+use Rattle.std.specs.Prelude.{ℕ, ◌-◌, ◌<◌, ◌≤◌, ◌≡◌, true, false, List, ◌∷◌, ◌++◌, ◌↔◌, length as size, replicate, Some, None}
 use Rattle.words.specs.declared.Order.TheVariants.{Big}
 use Rattle.words.specs.Words.{Bytes, bytes_of}
 use Rattle.codec_pages.specs.declared.frame.Frame.{Frame}
@@ -86,12 +86,12 @@ pub record SpeedsShown : Type 0 where
 -- ---- what the monitor says
 
 -- bytes said on an identifier are sent: an extended frame on it, of their number, with these bytes and zeros after
-pub record Sent (transmit : ℕ) (said : List ℕ) : Type 0 where
-  pub sent : (says transmit said).sent ≡ true
-  pub extended : (says transmit said).frame.extended ≡ true
-  pub identifier : (says transmit said).frame.identifier ≡ transmit
-  pub length : (says transmit said).frame.length ≡ size said
-  pub bytes : (says transmit said).frame.bytes ≡ said ++ replicate (8 - size said) 0
+pub record Sent (transmit : ℕ) (said : List ℕ) (f : Frame) : Type 0 where
+  pub sent : says transmit said ≡ Some f
+  pub extended : f.extended ≡ true
+  pub identifier : f.identifier ≡ transmit
+  pub length : f.length ≡ size said
+  pub bytes : f.bytes ≡ said ++ replicate (8 - size said) 0
 
 -- ---- serial words
 
@@ -117,8 +117,8 @@ pub record Promise : Type 0 where
   pub accepted : AcceptedMeans
   pub equal_identifiers : EqualAccepted
   pub negative : NegativeRefused
-  pub sent : (transmit : ℕ) (bytes : List ℕ) → Sent transmit bytes
-  pub not_sent : quiet.sent ≡ false
+  pub sent : (transmit : ℕ) (bytes : List ℕ) → (f : Frame) × Sent transmit bytes f
+  pub not_sent : quiet ≡ None
   pub serial_built : SerialBuilt
   pub serial_words : SerialWords
   pub speeds : SpeedsShown

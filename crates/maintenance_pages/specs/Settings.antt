@@ -1,9 +1,7 @@
 -- The six settings: their codes, which values are legal, and which settings power-on accepts.
-use Rattle.std.specs.Prelude.{ℕ, Bool, cond, ◌&&◌, ◌||◌, List, [], ◌∷◌, eqb, leb, ltb}
+use Rattle.std.specs.Prelude.{ℕ, Bool, cond, ◌&&◌, ◌||◌, List, [], ◌∷◌, eqb, leb, ltb, Option, Some, None}
 use Rattle.maintenance_pages.specs.declared.setting.Setting.{Setting}
 use Rattle.maintenance_pages.specs.declared.setting.Setting.TheVariants.{ReceiveId, TransmitId, Speed, Voltage, WarningLevel, FaultLevel}
-use Rattle.maintenance_pages.specs.declared.setting.Named.{Named}
-use Rattle.maintenance_pages.specs.declared.setting.Named.TheVariants.{Unknown, Known}
 use Rattle.maintenance_pages.specs.declared.setting.Settings.{Settings}
 
 -- "Codes: 15 receive id and 16 transmit id [..]; 17 speed [..]; 18 voltage [..]; 19 warning and 20 fault level"
@@ -18,12 +16,12 @@ code FaultLevel = 0x20
 abbrev pub in_code_order : List Setting
 in_code_order = ReceiveId ∷ TransmitId ∷ Speed ∷ Voltage ∷ WarningLevel ∷ FaultLevel ∷ []
 
-abbrev pub setting_in : List Setting → ℕ → Named
-setting_in [] c = Unknown
-setting_in (s ∷ ss) c = cond (eqb c (code s)) (Known s) (setting_in ss c)
+abbrev pub setting_in : List Setting → ℕ → Option Setting
+setting_in [] c = None
+setting_in (s ∷ ss) c = cond (eqb c (code s)) (Some s) (setting_in ss c)
 
 -- the setting whose code this is, if there is one
-abbrev pub setting_of : ℕ → Named
+abbrev pub setting_of : ℕ → Option Setting
 setting_of c = setting_in in_code_order c
 
 -- "0 to 0x1FFFFFFF"; "the two values"; "at least 1 and below the rating"; "1 to 2,147,483,647"

@@ -3,7 +3,7 @@
 // of all that.
 //
 //     setting  the six settings
-//     message  what a frame says to the monitor, and what the monitor says back
+//     message  what a frame says to the monitor
 #![tactic(auto)]
 
 pub mod message;

@@ -1,17 +1,16 @@
-// What a frame says to the monitor, and what the monitor says back.
+// What a frame says to the monitor.
 use crate::setting::Setting;
-use codec_pages::frame::Frame;
 
-// The four words of a serial number, by their four bytes: the first is asked for by 0B, the last by 08.
-#[derive(Clone, Copy)]
+// The four words of a serial number, by their four bytes, with the multiplexer that each is asked for by.
+#[derive(Clone, Copy, PartialEq, Eq)]
 pub enum SerialWord {
-    First,
-    Second,
-    Third,
-    Last,
+    First = 0x0B,
+    Second = 0x0A,
+    Third = 0x09,
+    Last = 0x08,
 }
 
-#[derive(Clone, Copy)]
+#[derive(Clone, Copy, PartialEq, Eq)]
 pub enum Message {
     Other,
     Unlock,
@@ -20,11 +19,4 @@ pub enum Message {
     SerialRequest(SerialWord),
     Read(Setting),
     Write(Setting, u32),
-}
-
-// A frame that the monitor sends. Where it sends none, the frame is blank.
-#[derive(Clone, Copy)]
-pub struct Reply {
-    pub sent: bool,
-    pub frame: Frame,
 }

@@ -8,14 +8,14 @@ use Rattle.rules.specs.History.{stored_after}
 use Rattle.text.specs.Figures.{hexadecimal, decimal_up_to}
 use Rattle.bench_log.specs.Layout.{is_laid_out}
 use Rattle.bench_log.specs.Block.{block_in, is_legal}
-use Rattle.bench_log.specs.Record.{record_in, zeros, is_record}
+use Rattle.bench_log.specs.Record.{record_in, is_record}
 use Rattle.bench_log.specs.Check.{history_of, records_acceptance}
 use Rattle.listing.specs.Lines.{spaced}
 use Rattle.listing.specs.Listing.{lines_of, listing_of}
 use Rattle.marked.specs.Marked.{Marked}
 
 pub marked : Marked
-unfolding entry_of read_report read_request message stored_after hexadecimal decimal_up_to is_laid_out block_in is_legal record_in zeros is_record history_of records_acceptance spaced lines_of listing_of
+unfolding entry_of read_report read_request message stored_after hexadecimal decimal_up_to is_laid_out block_in is_legal record_in is_record history_of records_acceptance spaced lines_of listing_of
 marked = (
   refl,
   (

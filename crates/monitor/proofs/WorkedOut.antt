@@ -10,9 +10,9 @@ use Rattle.rules.specs.Demand.{Demand, Same}
 use Rattle.rules.specs.Promise.{is_open, state_of}
 use Rattle.rules.proofs.Promise.{promise as rules}
 use Rattle.monitor.specs.declared.bench.Bench.{Bench}
-use Rattle.monitor.specs.declared.bench.Outcome.{Outcome}
-use Rattle.monitor.specs.declared.bench.UptimeReading.TheVariants.{Read as Ticked}
-use Rattle.monitor.specs.Bench.{uptime_asked, after}
+use Rattle.std.specs.Prelude.{Ok, is_ok}
+use Rattle.time.specs.declared.Ticks.{Ticks}
+use Rattle.monitor.specs.Bench.{Outcome, reply_of, uptime_asked, after}
 use Rattle.monitor.specs.Promise.{RunsAreAccepted, WorkedOut}
 use Rattle.monitor.proofs.Reached.{bench_after, accepted_next, run_further, run_on}
 
@@ -21,7 +21,7 @@ runs_accepted p =
     record {
       power_on = (λ a. rw a refl, run_on p (accepted p.rating p.settings) refl);
       event = λ e h r. (
-        λ run. ap (λ (o : Outcome). o.acceptance) (accepted_next p e h run),
+        λ run. ap (λ (o : Outcome). is_ok o.answer) (accepted_next p e h run),
         run_further p e h r,
       );
     }
@@ -35,11 +35,11 @@ worked_out p h r =
     let unit = rules.worked_out p h r in
     record {
       stored = ap (λ (m : Monitor). m.stored) (unit_there p h r) ∙ unit.stored;
-      reply = λ e run. ap (λ (o : Outcome). o.reply) (accepted_next p e h run) ∙ unit.reply e run;
+      reply = λ e run. ap (λ (o : Outcome). reply_of o) (accepted_next p e h run) ∙ unit.reply e run;
       start = λ t l. ap (λ (m : Monitor). (woken t m).start) (unit_there p h r) ∙ unit.start t l;
       uptime = λ t l.
           ap (uptime_asked t) (bench_after p h r)
-          ∙ rw (le-ltb t.0 (last_stamp p h).0 l) (ap Ticked (unit.uptime t l));
+          ∙ rw (le-ltb t.0 (last_stamp p h).0 l) (ap (λ (x : Ticks). Ok x) (unit.uptime t l));
     }
 
 bench_same : (p : PowerOn) (h : List Event) → Run p h → Same p (state_of (λ h. unit_after p h)) (state_of (λ h. (after p h).monitor)) h

@@ -1,7 +1,6 @@
 -- What the monitor promises, for every monitor, every event and every history there is. `proofs/Promise` proves it.
-use Rattle.std.specs.Prelude.{ℕ, ◌-◌, ◌/◌, ◌≤◌, ◌≡◌, List, [], ◌∷◌, ◌↔◌}
-use Rattle.refusal.specs.Conditions.{First, None, GivenExactly}
-use Rattle.refusal.specs.declared.Acceptance.TheVariants.{Accepted}
+use Rattle.std.specs.Prelude.{ℕ, ◌-◌, ◌/◌, ◌≤◌, ◌≡◌, true, List, [], ◌∷◌, ◌↔◌, is_ok, Ok}
+use Rattle.refusal.specs.Conditions.{First, NoneHolds, GivenExactly}
 use Rattle.maintenance_pages.specs.Means.{Acceptable}
 use Rattle.maintenance_pages.specs.Messages.{quiet as no_reply}
 use Rattle.time.specs.declared.Stamp.{Stamp}
@@ -14,8 +13,7 @@ use Rattle.rules.specs.Demand.{Demand}
 use Rattle.rules.specs.Given.{on, ticks, given_reply}
 use Rattle.rules.specs.Promise.{Fresh, OnIdentifier, state_of}
 use Rattle.monitor.specs.declared.bench.Bench.{Bench}
-use Rattle.monitor.specs.declared.bench.UptimeReading.TheVariants.{Read as Ticked}
-use Rattle.monitor.specs.Bench.{outcome_of, powered_on, uptime_asked, bench_at, after}
+use Rattle.monitor.specs.Bench.{outcome_of, reply_of, powered_on, uptime_asked, bench_at, after}
 use Rattle.monitor.specs.Told.{told_outcome, told_power_on, told_uptime, event_conditions, power_on_conditions, uptime_conditions}
 
 -- ---- answered or refused
@@ -24,8 +22,8 @@ use Rattle.monitor.specs.Told.{told_outcome, told_power_on, told_uptime, event_c
 -- that the rules give, and the event's stamp is now the last accepted one.
 pub record Handles (e : Event) (b : Bench) : Type 0 where
   pub exactly : GivenExactly (told_outcome (outcome_of e b)) (event_conditions e b) (given_reply (step e b.monitor).reply)
-  pub same : (n : ℕ) → First n (event_conditions e b) → ((outcome_of e b).bench ≡ b) × ((outcome_of e b).reply ≡ no_reply)
-  pub next : None (event_conditions e b) → (outcome_of e b).bench ≡ bench_at (stamp_of e) (step e b.monitor).monitor
+  pub same : (n : ℕ) → First n (event_conditions e b) → ((outcome_of e b).bench ≡ b) × (reply_of (outcome_of e b) ≡ no_reply)
+  pub next : NoneHolds (event_conditions e b) → (outcome_of e b).bench ≡ bench_at (stamp_of e) (step e b.monitor).monitor
 
 -- Power-on: 8 exactly when the settings or the rating are not legal; where they are, the monitor starts at the stamp.
 pub record PowersOn (p : PowerOn) : Type 0 where
@@ -47,7 +45,7 @@ pub record Holds (p : PowerOn) (h : List Event) : Type 0 where
   -- the stored six are legal: a level is never 0, and a voltage never reaches the rating
   pub legal : Acceptable p.rating (after p h).monitor.stored
   -- "Every reply is on the transmit identifier stored before the event."
-  pub identifier : (e : Event) → OnIdentifier (after p h).monitor.stored.transmit (outcome_of e (after p h)).reply
+  pub identifier : (e : Event) → OnIdentifier (after p h).monitor.stored.transmit (reply_of (outcome_of e (after p h)))
   -- the last start, silence counted, is not after the question, so that the uptime is a true difference
   pub start : (at : Stamp) → (after p h).last.0 ≤ at.0 → (woken at (after p h).monitor).start.0 ≤ at.0
 
@@ -62,15 +60,15 @@ pub record SameBench (p : PowerOn) (h h' : List Event) : Type 0 where
 
 -- a run is what the functions accept, one after another
 pub record RunsAreAccepted (p : PowerOn) : Type 0 where
-  pub power_on : Run p [] ↔ (powered_on p.at p.serial p.rating p.settings).acceptance ≡ Accepted
-  pub event : (e : Event) (h : List Event) → Run p h → Run p (e ∷ h) ↔ (outcome_of e (after p h)).acceptance ≡ Accepted
+  pub power_on : Run p [] ↔ is_ok (powered_on p.at p.serial p.rating p.settings) ≡ true
+  pub event : (e : Event) (h : List Event) → Run p h → Run p (e ∷ h) ↔ is_ok (outcome_of e (after p h)).answer ≡ true
 
 -- after a run the stored six, the next reply, the last start and the uptime are those worked out from the history
 pub record WorkedOut (p : PowerOn) (h : List Event) : Type 0 where
   pub stored : (after p h).monitor.stored ≡ stored_after p h
-  pub reply : (e : Event) → Run p (e ∷ h) → (outcome_of e (after p h)).reply ≡ reply_to p h e
+  pub reply : (e : Event) → Run p (e ∷ h) → reply_of (outcome_of e (after p h)) ≡ reply_to p h e
   pub start : (t : Stamp) → (last_stamp p h).0 ≤ t.0 → (woken t (after p h).monitor).start ≡ last_start p h t
-  pub uptime : (t : Stamp) → (last_stamp p h).0 ≤ t.0 → uptime_asked t (after p h) ≡ Ticked (ticks_between (last_start p h t) t)
+  pub uptime : (t : Stamp) → (last_stamp p h).0 ≤ t.0 → uptime_asked t (after p h) ≡ Ok (ticks_between (last_start p h t) t)
 
 -- ---- the promise
 

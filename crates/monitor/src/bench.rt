@@ -1,20 +1,18 @@
-// The monitor on the bench: with the last accepted stamp it gives the refusals. A refused event returns the very bench it was given; a refused power-on has none,
-// and an uptime question returns a number alone.
+// The monitor on the bench: with the last accepted stamp it gives the refusals. A refused event leaves the bench as it was; a refused power-on
+// gives none.
 ghost use Rattle.std.specs.Prelude.{◌≡◌};
 ghost use Rattle.rules.specs.Events.{frame_event, reset_event};
-ghost use Rattle.monitor.specs.Bench.{no_bench, powered_on, refused_by, accepted_at, outcome_of, uptime_asked};
+ghost use Rattle.monitor.specs.Bench.{powered_on, outcome_of, uptime_asked};
 
 use crate::turn::start_with;
 use crate::unit;
 use codec_pages::frame::Frame;
 use codec_rows::limits::over_limits;
-use maintenance::message::no_reply;
 use maintenance::setting::is_accepted;
-use maintenance_pages::message::Reply;
 use maintenance_pages::setting::Settings;
-use refusal::{Acceptance, Refusal};
+use refusal::Refusal;
 use rules::unit::{Monitor, Turn};
-use time::{Stamp, Ticks, is_earlier};
+use time::{Stamp, Ticks};
 
 #[derive(Clone, Copy)]
 pub struct Bench {
@@ -22,129 +20,82 @@ pub struct Bench {
     last: Stamp,
 }
 
-// A power-on. Where it is refused, there is no monitor.
-#[derive(Clone, Copy)]
-pub struct PoweredOn {
-    pub acceptance: Acceptance,
-    pub bench: Bench,
-}
-
-// Whether an event was accepted, the bench after it, and the reply.
-#[derive(Clone, Copy)]
-pub struct Outcome {
-    pub acceptance: Acceptance,
-    pub bench: Bench,
-    pub reply: Reply,
-}
-
-#[derive(Clone, Copy)]
-pub enum UptimeReading {
-    Read(Ticks),
-    Refused(Refusal),
-}
-
-// The six settings that are stored.
-pub fn stored(b: Bench) -> Settings
-    ensures { result ≡ b.monitor.stored }
-{
-    b.monitor.stored
-}
-
-// ---- power-on
-
-// What stands where no monitor is on: everything is zero.
-pub fn no_bench() -> Bench
-    ensures { result ≡ no_bench }
-{
-    let zero = Settings {
-        receive: 0,
-        transmit: 0,
-        speed: 0,
-        voltage: 0,
-        warning: 0,
-        fault: 0,
-    };
-    Bench {
-        monitor: start_with([0; 16], 0, zero, Stamp(0)),
-        last: Stamp(0),
+impl Bench {
+    pub fn power_on(
+        at: Stamp,
+        serial: [u8; 16],
+        rating: u16,
+        settings: Settings,
+    ) -> Result<Bench, Refusal>
+        ensures { result ≡ powered_on at serial rating settings }
+    {
+        if !is_accepted(rating, settings) {
+            return Err(Refusal::NotLegal);
+        }
+        Ok(Bench {
+            monitor: start_with(serial, rating, settings, at),
+            last: at,
+        })
     }
-}
 
-pub fn power_on(at: Stamp, serial: [u8; 16], rating: u16, settings: Settings) -> PoweredOn
-    ensures { result ≡ powered_on at serial rating settings }
-{
-    let good = is_accepted(rating, settings);
-    if good {
-        return PoweredOn {
-            acceptance: Acceptance::Accepted,
-            bench: Bench {
-                monitor: start_with(serial, rating, settings, at),
-                last: at,
-            },
-        };
+    // The six settings that are stored.
+    pub fn stored(&self) -> Settings
+        ensures { result ≡ self.now.monitor.stored }
+    {
+        self.monitor.stored
     }
-    PoweredOn {
-        acceptance: Acceptance::Refused(Refusal::NotLegal),
-        bench: no_bench(),
-    }
-}
 
-// ---- events
+    // ---- events: the reply, if there is one
 
-fn refused_by(b: Bench, why: Refusal) -> Outcome
-    ensures { result ≡ refused_by why b }
-{
-    Outcome {
-        acceptance: Acceptance::Refused(why),
-        bench: b,
-        reply: no_reply(),
+    fn take(&mut self, at: Stamp, turn: Turn) -> Option<Frame>
+        ensures monitor { self.new.monitor ≡ turn.monitor }
+        ensures last { self.new.last ≡ at }
+        ensures reply { result ≡ turn.reply }
+    {
+        let Turn { monitor, reply } = turn;
+        self.monitor = monitor;
+        self.last = at;
+        reply
     }
-}
 
-fn accepted_at(turn: Turn, at: Stamp) -> Outcome
-    ensures { result ≡ accepted_at at turn }
-{
-    let monitor = turn.monitor;
-    let reply = turn.reply;
-    Outcome {
-        acceptance: Acceptance::Accepted,
-        bench: Bench { monitor, last: at },
-        reply,
+    pub fn frame_event(
+        &mut self,
+        at: Stamp,
+        storing: bool,
+        f: Frame,
+    ) -> Result<Option<Frame>, Refusal>
+        ensures answer { result ≡ (outcome_of (frame_event at storing f) self.old).answer }
+        ensures bench { self.new ≡ (outcome_of (frame_event at storing f) self.old).bench }
+    {
+        if over_limits(f) {
+            return Err(Refusal::OverLimits);
+        }
+        if at < self.last {
+            return Err(Refusal::EarlyStamp);
+        }
+        let turn = unit::frame(self.monitor, at, storing, f);
+        Ok(self.take(at, turn))
     }
-}
 
-pub fn frame_event(b: Bench, at: Stamp, storing: bool, f: Frame) -> Outcome
-    ensures { result ≡ outcome_of (frame_event at storing f) b }
-{
-    let over = over_limits(f);
-    if over {
-        return refused_by(b, Refusal::OverLimits);
+    pub fn reset_event(&mut self, at: Stamp) -> Result<Option<Frame>, Refusal>
+        ensures answer { result ≡ (outcome_of (reset_event at) self.old).answer }
+        ensures bench { self.new ≡ (outcome_of (reset_event at) self.old).bench }
+    {
+        if at < self.last {
+            return Err(Refusal::EarlyStamp);
+        }
+        let turn = unit::reset(self.monitor, at);
+        Ok(self.take(at, turn))
     }
-    let early = is_earlier(at, b.last);
-    if early {
-        return refused_by(b, Refusal::EarlyStamp);
-    }
-    accepted_at(unit::frame(b.monitor, at, storing, f), at)
-}
 
-pub fn reset_event(b: Bench, at: Stamp) -> Outcome
-    ensures { result ≡ outcome_of (reset_event at) b }
-{
-    let early = is_earlier(at, b.last);
-    if early {
-        return refused_by(b, Refusal::EarlyStamp);
-    }
-    accepted_at(unit::reset(b.monitor, at), at)
-}
+    // ---- the uptime question
 
-// ---- the uptime question
-
-pub fn uptime(b: Bench, at: Stamp) -> UptimeReading
-    ensures { result ≡ uptime_asked at b }
-{
-    let early = is_earlier(at, b.last);
-    if early {
-        return UptimeReading::Refused(Refusal::EarlyStamp);
+    pub fn uptime(&self, at: Stamp) -> Result<Ticks, Refusal>
+        ensures { result ≡ uptime_asked at self.now }
+    {
+        if at < self.last {
+            return Err(Refusal::EarlyStamp);
+        }
+        Ok(unit::uptime(self.monitor, at))
     }
-    UptimeReading::Read(unit::uptime(b.monitor, at))
 }

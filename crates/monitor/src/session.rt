@@ -10,71 +10,70 @@ use maintenance_pages::setting::{Setting, Settings};
 use rules::unit::{Monitor, Turn};
 use time::Stamp;
 
-// NAK, and the session goes on.
-fn refuse(m: Monitor, draft: Settings, at: Stamp) -> Turn
-    ensures { result ≡ refused at draft m }
-{
-    go_on(m, draft, at, nak_reply(m.stored.transmit))
+// A monitor in a session, with its draft, at the stamp of the frame that it meets.
+#[derive(Clone, Copy)]
+pub(crate) struct InSession {
+    pub monitor: Monitor,
+    pub draft: Settings,
+    pub at: Stamp,
 }
 
-fn read(m: Monitor, draft: Settings, at: Stamp, setting: Setting) -> Turn
-    ensures { result ≡ was_read setting at draft m }
-{
-    go_on(
-        m,
-        draft,
-        at,
-        value_reply(m.stored.transmit, setting, value_of(draft, setting)),
-    )
-}
-
-fn write(m: Monitor, draft: Settings, at: Stamp, setting: Setting, value: u32) -> Turn
-    ensures { result ≡ written setting value at draft m }
-{
-    let good = is_legal(m.rating, setting, value);
-    if good {
-        return go_on(
-            m,
-            with_value(draft, setting, value),
-            at,
-            ack_reply(m.stored.transmit),
-        );
+impl InSession {
+    // NAK, and the session goes on.
+    fn refuse(self) -> Turn
+        ensures { result ≡ refused self.at self.draft self.monitor }
+    {
+        let transmit = self.monitor.stored.transmit;
+        go_on(self.monitor, self.draft, self.at, nak_reply(transmit))
     }
-    refuse(m, draft, at)
-}
 
-fn commit(m: Monitor, draft: Settings, at: Stamp, storing: bool) -> Turn
-    ensures { result ≡ committed storing at draft m }
-{
-    let transmit = m.stored.transmit;
-    if storing {
-        return Turn {
-            monitor: start_again(m, draft, at),
-            reply: ack_reply(transmit),
-        };
+    fn read(self, setting: Setting) -> Turn
+        ensures { result ≡ was_read setting self.at self.draft self.monitor }
+    {
+        let transmit = self.monitor.stored.transmit;
+        let shown = value_reply(transmit, setting, value_of(self.draft, setting));
+        go_on(self.monitor, self.draft, self.at, shown)
     }
-    Turn {
-        monitor: start_again(m, m.stored, at),
-        reply: nak_reply(transmit),
-    }
-}
 
-pub(crate) fn meet_inside(
-    m: Monitor,
-    message: Message,
-    draft: Settings,
-    at: Stamp,
-    storing: bool,
-) -> Turn
-    ensures { result ≡ inside message draft at storing m }
-{
-    match message {
-        Message::Read(setting) => read(m, draft, at, setting),
-        Message::Write(setting, value) => write(m, draft, at, setting, value),
-        Message::Commit => commit(m, draft, at, storing),
-        Message::Unlock => refuse(m, draft, at),
-        Message::Answer => refuse(m, draft, at),
-        Message::SerialRequest(_) => refuse(m, draft, at),
-        Message::Other => refuse(m, draft, at),
+    fn write(self, setting: Setting, value: u32) -> Turn
+        ensures { result ≡ written setting value self.at self.draft self.monitor }
+    {
+        if !is_legal(self.monitor.rating, setting, value) {
+            return self.refuse();
+        }
+        let draft = with_value(self.draft, setting, value);
+        let transmit = self.monitor.stored.transmit;
+        go_on(self.monitor, draft, self.at, ack_reply(transmit))
+    }
+
+    fn commit(self, storing: bool) -> Turn
+        ensures { result ≡ committed storing self.at self.draft self.monitor }
+    {
+        let m = self.monitor;
+        let draft = self.draft;
+        let transmit = m.stored.transmit;
+        if storing {
+            return Turn {
+                monitor: start_again(m, draft, self.at),
+                reply: ack_reply(transmit),
+            };
+        }
+        Turn {
+            monitor: start_again(m, m.stored, self.at),
+            reply: nak_reply(transmit),
+        }
+    }
+
+    pub(crate) fn meet(self, message: Message, storing: bool) -> Turn
+        ensures { result ≡ inside message self.draft self.at storing self.monitor }
+    {
+        match message {
+            Message::Read(setting) => self.read(setting),
+            Message::Write(setting, value) => self.write(setting, value),
+            Message::Commit => self.commit(storing),
+            Message::Unlock | Message::Answer | Message::SerialRequest(_) | Message::Other => {
+                self.refuse()
+            }
+        }
     }
 }

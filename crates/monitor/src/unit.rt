@@ -2,24 +2,22 @@
 ghost use Rattle.std.specs.Prelude.{◌≡◌};
 ghost use Rattle.rules.specs.Rules.{woken, heard, met, framed, was_reset, uptime_of};
 
-use crate::outside::meet_outside;
-use crate::session::meet_inside;
+use crate::outside::Outside;
+use crate::session::InSession;
 use crate::turn::{ignore, start_again};
 use codec_pages::frame::Frame;
 use maintenance::message::message_of;
-use rules::unit::{Monitor, Phase, Turn};
-use time::{Stamp, Ticks, past_limit, ticks_between};
+use rules::unit::{Monitor, Phase, Session, Turn};
+use time::{Stamp, Ticks};
 
 // The monitor as an event at this stamp finds it: in a session, more than 2,000 ms without a heard message have started it again.
 fn wake(m: Monitor, at: Stamp) -> Monitor
     ensures { result ≡ woken at m }
 {
-    let phase = m.phase;
-    match phase {
+    match m.phase {
         Phase::Outside(_) => m,
         Phase::InSession(s) => {
-            let silent = past_limit(s.heard, 2000, at);
-            if silent {
+            if at.is_past(s.heard, 2000) {
                 return start_again(m, m.stored, Stamp(s.heard.0 + 2000));
             }
             m
@@ -38,10 +36,20 @@ fn meet(m: Monitor, at: Stamp, storing: bool, f: Frame) -> Turn
     ensures { result ≡ met at storing f m }
 {
     let message = message_of(f);
-    let phase = m.phase;
-    match phase {
-        Phase::Outside(pending) => meet_outside(m, message, pending, at, f),
-        Phase::InSession(s) => meet_inside(m, message, s.draft, at, storing),
+    let monitor = m;
+    match m.phase {
+        Phase::Outside(pending) => {
+            let outside = Outside {
+                monitor,
+                pending,
+                at,
+            };
+            outside.meet(message, f)
+        }
+        Phase::InSession(Session { draft, .. }) => {
+            let session = InSession { monitor, draft, at };
+            session.meet(message, storing)
+        }
     }
 }
 
@@ -49,8 +57,7 @@ pub(crate) fn frame(m: Monitor, at: Stamp, storing: bool, f: Frame) -> Turn
     ensures { result ≡ framed at storing f m }
 {
     let w = wake(m, at);
-    let h = is_heard(w, f);
-    if h {
+    if is_heard(w, f) {
         return meet(w, at, storing, f);
     }
     ignore(w)
@@ -67,5 +74,5 @@ pub(crate) fn uptime(m: Monitor, at: Stamp) -> Ticks
     ensures { result ≡ uptime_of at m }
 {
     let w = wake(m, at);
-    ticks_between(w.start, at)
+    at.ticks_since(w.start)
 }

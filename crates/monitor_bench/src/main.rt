@@ -2,16 +2,19 @@
 // times it beside plain C.
 #![tactic(auto)]
 
-ghost use Rattle.std.specs.Prelude.{◌≡◌, ◌%◌, ◌*◌};
-ghost use Rattle.monitor_bench.specs.Sessions.{frame_on, host_frame, counts, plays, session_from, unit_on_bench};
+ghost use Rattle.std.specs.Prelude.{◌≡◌, ◌%◌, ◌*◌, Ok};
+ghost use Rattle.rules.specs.Events.{reset_event};
+ghost use Rattle.monitor.specs.Bench.{reply_in, outcome_of};
+ghost use Rattle.monitor_bench.specs.Sessions.{frame_on, host_frame, said, sum_with, counts, plays, session_from, stamp_at, unit_on_bench};
 
 use codec_pages::frame::Frame;
 use door::LastWord;
 use maintenance_pages::setting::Settings;
-use monitor::bench::{Bench, Outcome, frame_event, power_on, reset_event};
+use monitor::bench::Bench;
+use refusal::Refusal;
 use time::Stamp;
 use words::Order;
-use words::word::word32;
+use words::word::Word;
 
 // The bench, and the sum so far.
 #[derive(Clone, Copy)]
@@ -37,67 +40,65 @@ fn host(length: u8, bytes: [u8; 8]) -> Frame
     on(0x0A100101, length, bytes)
 }
 
-// The sum over an outcome: the length of its reply, and the reply's bytes 0 and 4.
-fn counted(o: Outcome, sum: u64) -> Run
-    ensures { result ≡ counts o sum }
+// The length of a reply and its bytes 0 and 4, in one word.
+fn said(answer: Result<Option<Frame>, Refusal>) -> u32
+    ensures { result ≡ said (reply_in answer) }
 {
-    let bench = o.bench;
-    let reply = o.reply;
-    let f = reply.frame;
-    let b = f.bytes;
-    let said = word32(Order::Big, 0, f.length, b[0], b[4]);
-    Run {
-        bench,
-        sum: sum % 1099511627776 * 31 + said as u64,
+    match answer {
+        Ok(Some(f)) => u32::from_bytes(Order::Big, [0, f.length, f.bytes[0], f.bytes[4]]),
+        Ok(None) | Err(_) => 0,
     }
 }
 
-fn framed(r: Run, at: Stamp, f: Frame) -> Run
-    ensures { result ≡ plays f at r }
-{
-    let bench = r.bench;
-    counted(frame_event(bench, at, true, f), r.sum)
-}
+impl Run {
+    fn count(&mut self, answer: Result<Option<Frame>, Refusal>)
+        ensures bench { self.new.bench ≡ self.old.bench }
+        ensures sum { self.new.sum ≡ sum_with (reply_in answer) self.old.sum }
+    {
+        self.sum = self.sum % 1099511627776 * 31 + u64::from(said(answer));
+    }
 
-// A reset, and a session that writes and reads the fault level and commits it, with a frame of another node in
-// between.
-fn session(start: Run, turn: u32) -> Run
-    ensures { result ≡ session_from (turn % 1000000 * 4000) (turn % 256) start }
-{
-    let at = turn % 1000000 * 4000;
-    let level = (turn % 256) as u8;
-    let bench = start.bench;
-    let a = counted(reset_event(bench, Stamp(at)), start.sum);
-    let b = framed(
-        a,
-        Stamp(at + 500),
-        host(3, [0x14, 0x28, 0xD5, 0, 0, 0, 0, 0]),
-    );
-    let c = framed(
-        b,
-        Stamp(at + 1000),
-        host(8, [0x14, 0x53, 0x4F, 0x46, 0x50, 0x4D, 0x48, 0x44]),
-    );
-    let d = framed(
-        c,
-        Stamp(at + 1500),
-        on(0x0A100102, 3, [0x14, 0x9A, 0x28, 0, 0, 0, 0, 0]),
-    );
-    let e = framed(
-        d,
-        Stamp(at + 2000),
-        host(5, [0x20, 0, 0, 0, level, 0, 0, 0]),
-    );
-    let f = framed(e, Stamp(at + 2500), host(1, [0x20, 0, 0, 0, 0, 0, 0, 0]));
-    framed(
-        f,
-        Stamp(at + 3000),
-        host(3, [0x14, 0x9A, 0x28, 0, 0, 0, 0, 0]),
-    )
+    #[tactic(auto, unfolding(crate::specs::Sessions::counts, crate::specs::Sessions::plays))]
+    fn play(&mut self, at: u32, frame: Frame)
+        ensures { self.new ≡ plays frame (stamp_at at) self.old }
+    {
+        let answer = self.bench.frame_event(Stamp(at), true, frame);
+        self.count(answer);
+    }
+
+    #[tactic(auto, unfolding(crate::specs::Sessions::counts))]
+    fn reset(&mut self, at: u32)
+        ensures { self.new ≡ counts (outcome_of (reset_event (stamp_at at)) self.old.bench) self.old.sum }
+    {
+        let answer = self.bench.reset_event(Stamp(at));
+        self.count(answer);
+    }
+
+    // A reset, and a session that writes and reads the fault level and commits it, with a frame of another node in
+    // between.
+    fn session(&mut self, turn: u32)
+        ensures { self.new ≡ session_from (turn % 1000000 * 4000) (turn % 256) self.old }
+    {
+        let at = turn % 1000000 * 4000;
+        let level = (turn % 256) as u8;
+        self.reset(at);
+        self.play(at + 500, host(3, [0x14, 0x28, 0xD5, 0, 0, 0, 0, 0]));
+        self.play(
+            at + 1000,
+            host(8, [0x14, 0x53, 0x4F, 0x46, 0x50, 0x4D, 0x48, 0x44]),
+        );
+        self.play(
+            at + 1500,
+            on(0x0A100102, 3, [0x14, 0x9A, 0x28, 0, 0, 0, 0, 0]),
+        );
+        self.play(at + 2000, host(5, [0x20, 0, 0, 0, level, 0, 0, 0]));
+        self.play(at + 2500, host(1, [0x20, 0, 0, 0, 0, 0, 0, 0]));
+        self.play(at + 3000, host(3, [0x14, 0x9A, 0x28, 0, 0, 0, 0, 0]));
+    }
 }
 
 fn powered() -> Bench
-    ensures { result ≡ unit_on_bench }
+    ensures { Ok result ≡ unit_on_bench }
 {
     let defaults = Settings {
         receive: 0x0A100101,
@@ -107,38 +108,31 @@ fn powered() -> Bench
         warning: 500,
         fault: 100,
     };
-    let p = power_on(
+    Bench::power_on(
         Stamp(0),
         [0, 1, 2, 3, 4, 5, 6, 7, 8, 9, 10, 11, 12, 13, 14, 15],
         1000,
         defaults,
-    );
-    p.bench
+    )
+    .unwrap()
 }
 
 // The sum on a line, and the last word by whether it was written.
 fn write_sum(sum: u64) -> LastWord {
     let figures = io::print_decimal(1, sum);
-    if figures {
-        let whole = door::write_first(b"\n", 1);
-        if whole {
-            return LastWord::Complete;
-        }
+    if figures && door::write_first(b"\n", 1).is_ok() {
+        return LastWord::Complete;
     }
     LastWord::Cut
 }
 
 fn main() {
-    let mut r = Run {
+    let mut run = Run {
         bench: powered(),
         sum: 0,
     };
-    let mut turn: u32 = 0;
-    while turn < 1000000 {
-        let next = session(r, turn);
-        r = next;
-        turn += 1;
+    for turn in 0..1000000 {
+        run.session(turn);
     }
-    let word = write_sum(r.sum);
-    door::close(word);
+    door::close(write_sum(run.sum));
 }

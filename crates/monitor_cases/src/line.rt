@@ -1,78 +1,87 @@
 // Answers as lines of text, each put at the end of a line.
+#![tactic(auto, using(show::proofs::Adding::added_twice))]
+
 ghost use Rattle.show.specs.Lines.{Adds};
 ghost use Rattle.monitor_cases.specs.Lines.{stored_text, no_monitor_text, reply_text, outcome_text, power_on_text, uptime_text, answer_text};
 
+use codec_pages::frame::Frame;
 use maintenance::setting::speed_number;
-use maintenance_pages::message::Reply;
-use monitor::bench::{Bench, Outcome, UptimeReading, stored};
-use refusal::Acceptance;
-use show::{Line, byte, ended, frame, hex8, refused, spaced, text, value};
+use monitor::bench::Bench;
+use refusal::Refusal;
+use show::Line;
+use time::Ticks;
 
 // The second part of a line, with its end.
-pub fn settings(l: Line, b: Bench) -> Line
-    ensures { Adds l (stored_text b) result }
+pub fn settings(line: &mut Line, b: Bench)
+    ensures { Adds line.old (stored_text b) line.new }
 {
-    let k = stored(b);
-    let receive = hex8(text(l, b" stored "), k.receive);
-    let ids = hex8(byte(receive, b' '), k.transmit);
-    let rates = value(value(ids, speed_number(k.speed)), k.voltage);
-    ended(value(value(rates, k.warning), k.fault))
+    let k = b.stored();
+    line.text(b" stored ");
+    line.hex8(k.receive);
+    line.byte(b' ');
+    line.hex8(k.transmit);
+    line.value(speed_number(k.speed));
+    line.value(k.voltage);
+    line.value(k.warning);
+    line.value(k.fault);
+    line.end();
 }
 
 // The line where there is no monitor: before the first accepted power-on.
-pub fn no_monitor(l: Line) -> Line
-    ensures { Adds l no_monitor_text result }
+pub fn no_monitor(line: &mut Line)
+    ensures { Adds line.old no_monitor_text line.new }
 {
-    ended(text(l, b"no monitor"))
+    line.text(b"no monitor");
+    line.end();
 }
 
-fn reply(l: Line, r: Reply) -> Line
-    ensures { Adds l (reply_text r) result }
+fn reply(line: &mut Line, reply: Option<Frame>)
+    ensures { Adds line.old (reply_text reply) line.new }
 {
-    let f = r.frame;
-    let sent = r.sent;
-    if sent {
-        return frame(l, f);
+    match reply {
+        Some(f) => line.frame(f),
+        None => line.text(b"no reply"),
     }
-    text(l, b"no reply")
 }
 
 // The first part of an event's line.
-pub fn outcome(l: Line, o: Outcome) -> Line
-    ensures { Adds l (outcome_text o) result }
+pub fn outcome(line: &mut Line, answer: Result<Option<Frame>, Refusal>)
+    ensures { Adds line.old (outcome_text answer) line.new }
 {
-    let acceptance = o.acceptance;
-    let r = o.reply;
-    match acceptance {
-        Acceptance::Accepted => reply(l, r),
-        Acceptance::Refused(why) => refused(l, why),
+    match answer {
+        Ok(sent) => reply(line, sent),
+        Err(why) => line.refused(why),
     }
 }
 
 // The first part of a power-on's line.
-pub fn power_on(l: Line, acceptance: Acceptance) -> Line
-    ensures { Adds l (power_on_text acceptance) result }
+pub fn power_on(line: &mut Line, answer: Result<Bench, Refusal>)
+    ensures { Adds line.old (power_on_text answer) line.new }
 {
-    match acceptance {
-        Acceptance::Accepted => text(l, b"on"),
-        Acceptance::Refused(why) => refused(l, why),
+    match answer {
+        Ok(_) => line.text(b"on"),
+        Err(why) => line.refused(why),
     }
 }
 
 // The first part of an uptime question's line.
-pub fn uptime(l: Line, u: UptimeReading) -> Line
-    ensures { Adds l (uptime_text u) result }
+pub fn uptime(line: &mut Line, answer: Result<Ticks, Refusal>)
+    ensures { Adds line.old (uptime_text answer) line.new }
 {
-    match u {
-        UptimeReading::Read(t) => value(text(l, b"ticks"), t.0),
-        UptimeReading::Refused(why) => refused(l, why),
+    match answer {
+        Ok(ticks) => {
+            line.text(b"ticks");
+            line.value(ticks.0);
+        }
+        Err(why) => line.refused(why),
     }
 }
 
 // The line of a challenge.
-pub fn answer(l: Line, a: [u8; 7]) -> Line
-    ensures { Adds l (answer_text a) result }
+pub fn answer(line: &mut Line, a: [u8; 7])
+    ensures { Adds line.old (answer_text a) line.new }
 {
-    let b = spaced(spaced(spaced(text(l, b"answer"), a[0]), a[1]), a[2]);
-    ended(spaced(spaced(spaced(spaced(b, a[3]), a[4]), a[5]), a[6]))
+    line.text(b"answer");
+    line.data(&a);
+    line.end();
 }

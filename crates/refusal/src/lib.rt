@@ -4,7 +4,7 @@
 ghost use Rattle.std.specs.Prelude.{◌≡◌};
 ghost use Rattle.refusal.specs.Refusals.{number_of};
 
-#[derive(Clone, Copy)]
+#[derive(Clone, Copy, PartialEq, Eq)]
 pub enum Refusal {
     // A frame's length is over 8, or its identifier over the limit of its format.
     OverLimits,
@@ -32,29 +32,24 @@ pub enum Refusal {
     ShortBuffer,
 }
 
-// Accepted, or refused and why.
-#[derive(Clone, Copy)]
-pub enum Acceptance {
-    Accepted,
-    Refused(Refusal),
-}
-
 // The number that document 01 gives a refusal.
-pub fn number(why: Refusal) -> u8
-    ensures { result ≡ number_of why }
-{
-    match why {
-        Refusal::OverLimits => 1,
-        Refusal::NotExpected => 2,
-        Refusal::NotListed => 3,
-        Refusal::WrongLength => 4,
-        Refusal::WrongStatus => 5,
-        Refusal::DoesNotFit => 6,
-        Refusal::EarlyStamp => 7,
-        Refusal::NotLegal => 8,
-        Refusal::WrongLog => 9,
-        Refusal::WrongRecord => 10,
-        Refusal::WrongSheet => 11,
-        Refusal::ShortBuffer => 12,
+impl From<Refusal> for u8 {
+    ghost from_gives = { λ why n. n ≡ number_of why };
+
+    fn from(why: Refusal) -> u8 {
+        match why {
+            Refusal::OverLimits => 1,
+            Refusal::NotExpected => 2,
+            Refusal::NotListed => 3,
+            Refusal::WrongLength => 4,
+            Refusal::WrongStatus => 5,
+            Refusal::DoesNotFit => 6,
+            Refusal::EarlyStamp => 7,
+            Refusal::NotLegal => 8,
+            Refusal::WrongLog => 9,
+            Refusal::WrongRecord => 10,
+            Refusal::WrongSheet => 11,
+            Refusal::ShortBuffer => 12,
+        }
     }
 }

@@ -6,21 +6,16 @@ ghost use Rattle.replay.specs.LastWord.{word_on, SaidOfLog};
 
 use door::LastWord;
 use listing::output::{Rest, next_part, whole};
-use refusal::Acceptance;
 
 // The last word where nothing more is written: by whether the log is accepted if nothing is left, and cut if something is.
 fn last_word(rest: Rest) -> LastWord
     ensures { result ≡ word_on rest }
 {
-    let over = rest.over;
-    let acceptance = rest.acceptance;
-    if over {
-        return match acceptance {
-            Acceptance::Accepted => LastWord::Complete,
-            Acceptance::Refused(_) => LastWord::Refused,
-        };
+    match rest {
+        Rest::Over(Ok(())) => LastWord::Complete,
+        Rest::Over(Err(_)) => LastWord::Refused,
+        _ => LastWord::Cut,
     }
-    LastWord::Cut
 }
 
 // Writes the output of a log, part by part. 18 parts are always all of it. Where one cannot be written none
@@ -29,18 +24,15 @@ fn write_parts(s: &[u8], text: &mut [u8]) -> LastWord
     ensures { SaidOfLog s.now result }
 {
     let mut rest = whole(s);
-    let mut i: u32 = 0;
-    while i < 18 {
-        if rest.over {
+    for _ in 0..18u32 {
+        if let Rest::Over(_) = rest {
             return last_word(rest);
         }
         let part = next_part(s, rest, text);
-        let written = door::write_first(text, part.end);
-        if !written {
+        if door::write_first(text, part.end).is_err() {
             return LastWord::Cut;
         }
         rest = part.rest;
-        i += 1;
     }
     last_word(rest)
 }
@@ -50,13 +42,10 @@ fn write_parts(s: &[u8], text: &mut [u8]) -> LastWord
 fn main(rt: HostRuntime) {
     let mut stdin = rt.stdin();
     let mut log = [0; 64161];
-    let input = door::read_input(&mut stdin, &mut log);
-    if input.failed {
-        door::close(LastWord::Unread);
-        return;
-    }
-    let n = input.n;
     let mut text = [0; 8192];
-    let word = write_parts(&log[..n], &mut text);
+    let word = match door::read_input(&mut stdin, &mut log) {
+        Ok(n) => write_parts(&log[..n], &mut text),
+        Err(_) => LastWord::Unread,
+    };
     door::close(word);
 }

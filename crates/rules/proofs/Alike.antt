@@ -3,6 +3,7 @@ use Prim.Native.Nat.{ℕ, ◌≤◌}
 use mathlib.Core.Path.{◌≡◌, refl, sym, ap, subst, ◌∙◌}
 use mathlib.Core.Bool.{Bool, not, cond, ◌&&◌}
 use mathlib.Core.List.{List, [], ◌∷◌}
+use Rattle.std.specs.Prelude.{Option, Some, None}
 use Rattle.codec_pages.specs.declared.frame.Frame.{Frame}
 use Rattle.codec_pages.specs.Frames.{over_limits}
 use Rattle.codec_pages.specs.Alike.{Alike}
@@ -11,8 +12,6 @@ use Rattle.maintenance_pages.specs.declared.message.Message.TheVariants.{Other, 
 use Rattle.maintenance_pages.specs.Messages.{message, heard_on, ack}
 use Rattle.maintenance_pages.proofs.Promise.{promise as maintenance}
 use Rattle.time.specs.declared.Stamp.{Stamp}
-use Rattle.rules.specs.declared.unit.Pending.{Pending}
-use Rattle.rules.specs.declared.unit.Pending.TheVariants.{Nothing, Since}
 use Rattle.rules.specs.declared.unit.Phase.{Phase}
 use Rattle.rules.specs.declared.unit.Phase.TheVariants.{Outside, InSession}
 use Rattle.rules.specs.declared.unit.Monitor.{Monitor}
@@ -33,9 +32,9 @@ module _ (f g : Frame) (a : Alike f g) where
       ∙ (ap (λ (x : Bool). limits g.length x f.identifier) a.extended ∙ ap (limits g.length g.extended) a.identifier)
 
   -- only of an answer is more asked than what it says
-  outside_same : (x : Message) → message f ≡ x → (pending : Pending) (at : Stamp) (m : Monitor) → outside x pending at f m ≡ outside x pending at g m
-  outside_same Answer q Nothing at m = refl
-  outside_same Answer q (Since since) at m =
+  outside_same : (x : Message) → message f ≡ x → (pending : Option Stamp) (at : Stamp) (m : Monitor) → outside x pending at f m ≡ outside x pending at g m
+  outside_same Answer q None at m = refl
+  outside_same Answer q (Some since) at m =
       ap (λ (right : Bool). cond (right && not (late_answer since at)) (goes_on at m.stored (ack (transmit_id m)) m) (given_up m))
       ((maintenance.past_length f g a).right m.serial ((maintenance.messages f).answer.0 q))
   outside_same Unlock q pending at m = refl

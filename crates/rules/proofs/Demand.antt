@@ -4,7 +4,8 @@ use mathlib.Core.Path.{◌≡◌, refl, sym, ap, subst, ◌∙◌}
 use mathlib.Core.Bool.{Bool, true, false, cond, ◌&&◌}
 use mathlib.Core.List.{List, ◌∷◌}
 use mathlib.Core.Logic.{◌↔◌}
-use mathlib.Core.Option.{Option, get_or}
+use Rattle.std.specs.Prelude.{Option}
+use Rattle.std.specs.Option.{unwrap_or}
 use Rattle.words.proofs.Tests.{decided, false_true, and_left, and_right}
 use Rattle.maintenance_pages.specs.declared.setting.Setting.{Setting}
 use Rattle.maintenance_pages.specs.declared.setting.Setting.TheVariants.{ReceiveId, TransmitId, Speed, Voltage, WarningLevel, FaultLevel}
@@ -89,7 +90,7 @@ module _ (p : PowerOn) (h : List Event) where
         takes = λ w s v a.
             ap (λ (k : Settings). value_of k s) (stored_there e (stores_there p (looking_back p) h sessions_back e l w))
             ∙ (value_taking (stored_after p h) (λ x. last_write p h x) s
-            ∙ ap (λ (u : Option ℕ). get_or u (value_of (stored_after p h) s))
+            ∙ ap (λ (u : Option ℕ). unwrap_or u (value_of (stored_after p h) s))
             (opened_writes p h w.at w.session s ∙ last_one p.rating s (heard_since (looking_back p) h w.session.answer) v a));
         stays = λ n. decided (stores_at (looking_back p) h e) (λ t. absurd (n (stores p (looking_back p) h sessions_back e l t))) (stays_there e);
       }

@@ -4,10 +4,10 @@ use Prim.Native.Nat.{ℕ, ◌≤◌}
 use mathlib.Core.Path.{◌≡◌, refl, sym, ap, ◌∙◌}
 use mathlib.Core.Bool.{Bool, true, false, not, cond, ◌&&◌}
 use mathlib.Core.List.{List, [], ◌∷◌}
-use mathlib.Core.Option.{Option, none, some}
 use lib.Dec.{leb, ltb}
 use borrow.Author.Tests.{leb-true, leb-false, le-ltb, lt-ltb}
 use native.Mathlib.Omega.{arith}
+use Rattle.std.specs.Prelude.{Option, Some, None}
 use Rattle.words.proofs.Tests.{decided}
 use Rattle.codec_pages.specs.declared.frame.Frame.{Frame}
 use Rattle.maintenance_pages.specs.declared.setting.Setting.{Setting}
@@ -18,8 +18,6 @@ use Rattle.maintenance_pages.specs.declared.message.Message.TheVariants.{Other, 
 use Rattle.maintenance_pages.specs.Settings.{legal, with_value}
 use Rattle.maintenance_pages.specs.Messages.{message, heard_on, is_right, ack, shown}
 use Rattle.time.specs.declared.Stamp.{Stamp}
-use Rattle.rules.specs.declared.unit.Pending.{Pending}
-use Rattle.rules.specs.declared.unit.Pending.TheVariants.{Nothing, Since}
 use Rattle.rules.specs.declared.unit.Phase.{Phase}
 use Rattle.rules.specs.declared.unit.Phase.TheVariants.{Outside, InSession}
 use Rattle.rules.specs.declared.unit.Monitor.{Monitor}
@@ -47,13 +45,9 @@ not_late since at =
 
 -- ---- the monitor of some answers
 
-abbrev pending_of : Option Stamp → Pending
-pending_of none = Nothing
-pending_of (some at) = Since at
-
 abbrev phase_of : Bool → Stamp → Settings → Option Stamp → Phase
 phase_of true heard draft pending = InSession (record { heard = heard; draft = draft })
-phase_of false heard draft pending = Outside (pending_of pending)
+phase_of false heard draft pending = Outside pending
 
 abbrev unit_of : PowerOn → Settings → Stamp → Bool → Stamp → (Setting → Option ℕ) → Option Stamp → Monitor
 unit_of p k start session heard written pending =
@@ -62,7 +56,7 @@ unit_of p k start session heard written pending =
 -- ---- a heard message, whatever was so before it
 
 -- a session that goes on from a stamp, for an event at t
-goes_on_lem : (p : PowerOn) (k : Settings) (start at t : Stamp) (written : Setting → Option ℕ) → woken t (unit_of p k start true at written none) ≡ unit_of p k (cond (not (near at t)) (restart_after at) start) (near at t) at written none
+goes_on_lem : (p : PowerOn) (k : Settings) (start at t : Stamp) (written : Setting → Option ℕ) → woken t (unit_of p k start true at written None) ≡ unit_of p k (cond (not (near at t)) (restart_after at) start) (near at t) at written None
 goes_on_lem p k start at t written =
     decided (near at t)
     (λ n. rw (n, within _ t.0 n) refl)
@@ -89,19 +83,19 @@ module _ (p : PowerOn) (k : Settings) (start heard : Stamp) (written : Setting �
       (leaves_start session x (timely_answer p.serial f pending at) at t start)
       (leaves_open session x (timely_answer p.serial f pending at) && near at t)
       at
-      (λ s. cond session (newest (writes p.rating s x) (written s)) none)
+      (λ s. cond session (newest (writes p.rating s x) (written s)) None)
       (leaves_pending session x (timely_unlock start at) at pending)
 
   -- ---- in a session
 
   abbrev draft_at : Settings → Monitor
-  draft_at d = in_phase (session_at at d) (before true none)
+  draft_at d = in_phase (session_at at d) (before true None)
 
-  inside_leaves : (x : Message) → woken t (inside x (taking k written) at storing (before true none)).monitor ≡ leaves true none x
+  inside_leaves : (x : Message) → woken t (inside x (taking k written) at storing (before true None)).monitor ≡ leaves true None x
   inside_leaves (Read s) = goes_on_lem p k start at t written
   inside_leaves (Write s v) =
       decided (legal p.rating s v)
-      (λ l. ap (λ (b : Bool). woken t (cond b (goes_on at (with_value (taking k written) s v) (ack k.transmit) (before true none)) (refused at (taking k written) (before true none))).monitor) l
+      (λ l. ap (λ (b : Bool). woken t (cond b (goes_on at (with_value (taking k written) s v) (ack k.transmit) (before true None)) (refused at (taking k written) (before true None))).monitor) l
       ∙ (ap (λ (d : Settings). woken t (draft_at d)) (takes k written p.rating s v l) ∙ goes_on_lem p k start at t (λ x. newest (writes p.rating x (Write s v)) (written x))))
       (λ l. rw l (goes_on_lem p k start at t written))
   inside_leaves Commit = decided storing (λ e. rw e refl) (λ e. rw e refl)
@@ -112,15 +106,15 @@ module _ (p : PowerOn) (k : Settings) (start heard : Stamp) (written : Setting �
 
   -- ---- outside
 
-  answer_leaves : (pending : Option Stamp) → woken t (answered (pending_of pending) at f (before false pending)).monitor ≡ leaves false pending Answer
-  answer_leaves none = refl
-  answer_leaves (some since) =
+  answer_leaves : (pending : Option Stamp) → woken t (answered pending at f (before false pending)).monitor ≡ leaves false pending Answer
+  answer_leaves None = refl
+  answer_leaves (Some since) =
       rw (not_late since at)
       (decided (is_right p.serial f && in_time since at)
-      (λ n. rw n (goes_on_lem p k start at t (λ s. none)))
+      (λ n. rw n (goes_on_lem p k start at t (λ s. None)))
       (λ n. rw n refl))
 
-  outside_leaves : (x : Message) (pending : Option Stamp) → woken t (outside x (pending_of pending) at f (before false pending)).monitor ≡ leaves false pending x
+  outside_leaves : (x : Message) (pending : Option Stamp) → woken t (outside x pending at f (before false pending)).monitor ≡ leaves false pending x
   outside_leaves Unlock pending =
       decided (timely_unlock start at)
       (λ n. rw (n, within _ _ n) refl)
@@ -202,7 +196,7 @@ module _ (p : PowerOn) (h : List Event) (at : Stamp) (storing : Bool) (f : Frame
   abbrev asked : Bool → Option Stamp → Monitor
   asked session pending = unit_of p (stored_after p h) (last_start p h at) session (last_heard p h) (λ s. last_write p h s) pending
 
-  says_inside : (x : Message) → (inside x (taking (stored_after p h) (λ s. last_write p h s)) at storing (asked true none)).reply ≡ reply_inside p h (stored_after p h).transmit storing x
+  says_inside : (x : Message) → (inside x (taking (stored_after p h) (λ s. last_write p h s)) at storing (asked true None)).reply ≡ reply_inside p h (stored_after p h).transmit storing x
   says_inside (Read s) = ap (λ (v : ℕ). shown (stored_after p h).transmit s v) (value_taking (stored_after p h) (λ x. last_write p h x) s)
   says_inside (Write s v) = decided (legal p.rating s v) (λ l. rw l refl) (λ l. rw l refl)
   says_inside Commit = decided storing (λ e. rw e refl) (λ e. rw e refl)
@@ -211,13 +205,13 @@ module _ (p : PowerOn) (h : List Event) (at : Stamp) (storing : Bool) (f : Frame
   says_inside (SerialRequest w) = refl
   says_inside Other = refl
 
-  says_answer : (pending : Option Stamp) → (answered (pending_of pending) at f (asked false pending)).reply ≡ reply_to_answer (stored_after p h).transmit pending (timely_answer p.serial f pending at)
-  says_answer none = refl
-  says_answer (some since) =
+  says_answer : (pending : Option Stamp) → (answered pending at f (asked false pending)).reply ≡ reply_to_answer (stored_after p h).transmit pending (timely_answer p.serial f pending at)
+  says_answer None = refl
+  says_answer (Some since) =
       rw (not_late since at)
       (decided (is_right p.serial f && in_time since at) (λ n. rw n refl) (λ n. rw n refl))
 
-  says_outside : (x : Message) → (outside x (pending_of (pending_since p h)) at f (asked false (pending_since p h))).reply ≡ reply_outside p h (stored_after p h).transmit at f x
+  says_outside : (x : Message) → (outside x (pending_since p h) at f (asked false (pending_since p h))).reply ≡ reply_outside p h (stored_after p h).transmit at f x
   says_outside Unlock =
       decided (timely_unlock (last_start p h at) at)
       (λ n. rw (n, within _ _ n) refl)

@@ -3,7 +3,8 @@ use Prim.Native.Nat.{ℕ, ◌<◌}
 use mathlib.Core.Path.{◌≡◌, refl, sym, ap, ◌∙◌}
 use mathlib.Core.Bool.{Bool, true, cond, ◌&&◌}
 use mathlib.Core.List.{List, [], ◌∷◌}
-use mathlib.Core.Option.{Option, none, some, get_or}
+use Rattle.std.specs.Prelude.{Option, Some, None}
+use Rattle.std.specs.Option.{unwrap_or}
 use Rattle.words.proofs.Tests.{decided}
 use Rattle.maintenance_pages.specs.declared.setting.Setting.{Setting}
 use Rattle.maintenance_pages.specs.declared.setting.Setting.TheVariants.{ReceiveId, TransmitId, Speed, Voltage, WarningLevel, FaultLevel}
@@ -19,12 +20,12 @@ use Rattle.rules.proofs.Looking.{nothing, write_heard, write_unheard}
 
 -- ---- what is stored is legal
 
-newest_legal : (P : ℕ → Type 0) (new old : Option ℕ) (v : ℕ) → ((n : ℕ) → new ≡ some n → P n) → ((n : ℕ) → old ≡ some n → P n) → newest new old ≡ some v → P v
-newest_legal P none old v n o e = o v e
-newest_legal P (some u) old v n o e = n v e
+newest_legal : (P : ℕ → Type 0) (new old : Option ℕ) (v : ℕ) → ((n : ℕ) → new ≡ Some n → P n) → ((n : ℕ) → old ≡ Some n → P n) → newest new old ≡ Some v → P v
+newest_legal P None old v n o e = o v e
+newest_legal P (Some u) old v n o e = n v e
 
 module _ (p : PowerOn) where
-  written_legal : (h : List Event) (s : Setting) (v : ℕ) → last_write p h s ≡ some v → legal p.rating s v ≡ true
+  written_legal : (h : List Event) (s : Setting) (v : ℕ) → last_write p h s ≡ Some v → legal p.rating s v ≡ true
   unfolding stored_after
   written_legal [] s v e = nothing v e
   written_legal (reset_event at ∷ h) s v e = nothing v e
@@ -33,17 +34,17 @@ module _ (p : PowerOn) where
       (λ x. decided (in_session p h at)
       (λ o.
       let new = writes p.rating s (message f) in
-      let now : newest new (last_write p h s) ≡ some v = sym (write_heard p at storing f h x s ∙ ap (λ (b : Bool). cond b (newest new (last_write p h s)) none) o) ∙ e in
+      let now : newest new (last_write p h s) ≡ Some v = sym (write_heard p at storing f h x s ∙ ap (λ (b : Bool). cond b (newest new (last_write p h s)) None) o) ∙ e in
       newest_legal (λ n. legal p.rating s n ≡ true) new (last_write p h s) v (λ n q. (writes_only p.rating s (message f) n q).1) (written_legal h s) now)
-      (λ o. nothing v (sym (write_heard p at storing f h x s ∙ ap (λ (b : Bool). cond b (newest (writes p.rating s (message f)) (last_write p h s)) none) o) ∙ e)))
+      (λ o. nothing v (sym (write_heard p at storing f h x s ∙ ap (λ (b : Bool). cond b (newest (writes p.rating s (message f)) (last_write p h s)) None) o) ∙ e)))
       (λ x. written_legal h s v (sym (write_unheard p at storing f h x s) ∙ e))
 
   -- what takes legal writes is legal
-  taken : (P : ℕ → Type 0) (w : Option ℕ) (k : ℕ) → P k → ((v : ℕ) → w ≡ some v → P v) → P (get_or w k)
-  taken P none k a b = a
-  taken P (some v) k a b = b v refl
+  taken : (P : ℕ → Type 0) (w : Option ℕ) (k : ℕ) → P k → ((v : ℕ) → w ≡ Some v → P v) → P (unwrap_or w k)
+  taken P None k a b = a
+  taken P (Some v) k a b = b v refl
 
-  taking_legal : (k : Settings) (written : Setting → Option ℕ) → Acceptable p.rating k → ((s : Setting) (v : ℕ) → written s ≡ some v → Legal p.rating s v) → Acceptable p.rating (taking k written)
+  taking_legal : (k : Settings) (written : Setting → Option ℕ) → Acceptable p.rating k → ((s : Setting) (v : ℕ) → written s ≡ Some v → Legal p.rating s v) → Acceptable p.rating (taking k written)
   taking_legal k written a l =
       record {
         rated = a.rated;

@@ -3,7 +3,9 @@ use Prim.Native.Nat.{ℕ}
 use mathlib.Core.Path.{◌≡◌, refl, sym, ap, ◌∙◌}
 use mathlib.Core.Bool.{Bool, true, false, cond, ◌&&◌}
 use mathlib.Core.List.{List, ◌∷◌, ◌++◌}
-use mathlib.Core.Option.{Option, none, some, get_or, none-ne-some}
+use native.Mathlib.Omega.{arith}
+use Rattle.std.specs.Prelude.{Option, Some, None}
+use Rattle.std.specs.Option.{unwrap_or}
 use Rattle.codec_pages.specs.declared.frame.Frame.{Frame}
 use Rattle.maintenance_pages.specs.declared.setting.Setting.{Setting}
 use Rattle.maintenance_pages.specs.declared.setting.Setting.TheVariants.{ReceiveId, TransmitId, Speed, Voltage, WarningLevel, FaultLevel}
@@ -55,10 +57,10 @@ said_not says k x its e q = false_true (sym (ap says q ∙ its) ∙ e)
 
 -- ---- what was written, or is pending, if anything
 
-pub nothing : {A X : Type 0} (a : A) → ◌≡◌ {A = Option A} none (some a) → X
-nothing a e = absurd (none-ne-some a e)
+pub nothing : {A X : Type 0} (a : A) → ◌≡◌ {A = Option A} None (Some a) → X
+nothing a e = let z : ◌≡◌ {A = ℕ} 0 1 = cc in absurd (omega arith)
 
-pub value_taking : (k : Settings) (written : Setting → Option ℕ) (s : Setting) → value_of (taking k written) s ≡ get_or (written s) (value_of k s)
+pub value_taking : (k : Settings) (written : Setting → Option ℕ) (s : Setting) → value_of (taking k written) s ≡ unwrap_or (written s) (value_of k s)
 value_taking k written ReceiveId = refl
 value_taking k written TransmitId = refl
 value_taking k written Speed = refl
@@ -110,7 +112,7 @@ module _ (p : PowerOn) (at : Stamp) (storing : Bool) (f : Frame) (h : List Event
     unfolding stored_after
     start_heard t = rw x refl
 
-    pub write_heard : (s : Setting) → last_write p (it ∷ h) s ≡ cond (in_session p h at) (newest (writes p.rating s (message f)) (last_write p h s)) none
+    pub write_heard : (s : Setting) → last_write p (it ∷ h) s ≡ cond (in_session p h at) (newest (writes p.rating s (message f)) (last_write p h s)) None
     unfolding stored_after
     write_heard s = rw x refl
 

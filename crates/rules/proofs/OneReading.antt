@@ -5,7 +5,8 @@ use mathlib.Core.Path.{◌≡◌, refl, sym, ap, subst, ◌∙◌}
 use mathlib.Core.Bool.{Bool, true, false, cond}
 use mathlib.Core.List.{List, [], ◌∷◌, ◌++◌}
 use mathlib.Core.Logic.{◌↔◌}
-use mathlib.Core.Option.{Option, get_or}
+use Rattle.std.specs.Prelude.{Option}
+use Rattle.std.specs.Option.{unwrap_or}
 use native.Mathlib.Omega.{arith}
 use Rattle.maintenance_pages.specs.declared.setting.Setting.{Setting}
 use Rattle.maintenance_pages.specs.declared.setting.Settings.{Settings}
@@ -156,7 +157,7 @@ module _ (p : PowerOn) (r r' : Reading) where
 
 -- what a setting takes of what was heard
 abbrev value : PowerOn → Setting → Settings → List Heard → ℕ
-value p x k l = get_or (last_accepted p.rating x l) (value_of k x)
+value p x k l = unwrap_or (last_accepted p.rating x l) (value_of k x)
 
 taken : (p : PowerOn) (r : Reading) (h : List Event) (e : Event) → Changes p r h e → (w : Stores p r h e) (s : Setting) → value_of (r.stored (e ∷ h)) s ≡ value p s (r.stored h) (heard_since r h w.session.answer)
 taken p r h e c w s = let l = heard_since r h w.session.answer in c.takes w s (last_accepted p.rating s l) (last_there p.rating s l)
@@ -236,7 +237,7 @@ module _ (p : PowerOn) (r r' : Reading) (d : Demand p r) (same : (h : List Event
             ∙ (taken p r h e c (back w) x
             ∙ (ap (λ (l : List Heard). value p x (r.stored h) l) (sym (since_same p r' r h run.1.1 (flip_before p r r' h b) w.session.answer))
             ∙ (ap (λ (k : Settings). value p x k (heard_since r' h w.session.answer)) s.stored
-            ∙ ap (λ (u : Option ℕ). get_or u (value_of (r'.stored h) x)) (last_one p.rating x (heard_since r' h w.session.answer) v l))));
+            ∙ ap (λ (u : Option ℕ). unwrap_or u (value_of (r'.stored h) x)) (last_one p.rating x (heard_since r' h w.session.answer) v l))));
         stays = λ none. sym n.stored ∙ (c.stays (λ w. none (there w)) ∙ s.stored);
       }
 

@@ -3,8 +3,8 @@ use Prim.Native.Nat.{ℕ, ◌+◌, ◌≤◌}
 use mathlib.Core.Path.{◌≡◌, refl, sym, ap, subst, ◌∙◌}
 use mathlib.Core.Bool.{Bool, true, false, ◌&&◌}
 use mathlib.Core.List.{List, [], ◌∷◌, ◌++◌}
-use mathlib.Core.Option.{Option, none, some, some-injective}
 use borrow.Author.Tests.{leb-true, not-true}
+use Rattle.std.specs.Prelude.{Option, Some, None}
 use Rattle.words.proofs.Tests.{decided, false_true, and_left, and_right}
 use Rattle.codec_pages.specs.declared.frame.Frame.{Frame}
 use Rattle.maintenance_pages.specs.declared.message.Message.{Message}
@@ -49,9 +49,9 @@ module _ (p : PowerOn) (h : List Event) (s : Stamp) (works : Bool) (g : Frame) w
 -- ---- what is pending was unlocked
 
 -- what a heard message leaves pending: its own challenge, or what was pending
-left_pending : {X : Type 0} (o : Bool) (x : Message) (timely : Bool) (at : Stamp) (before : Option Stamp) (u : Stamp) → leaves_pending o x timely at before ≡ some u → (o ≡ false → x ≡ Unlock → timely ≡ true → at ≡ u → X) → (unlocks x ≡ false → answers x ≡ false → before ≡ some u → X) → X
+left_pending : {X : Type 0} (o : Bool) (x : Message) (timely : Bool) (at : Stamp) (before : Option Stamp) (u : Stamp) → leaves_pending o x timely at before ≡ Some u → (o ≡ false → x ≡ Unlock → timely ≡ true → at ≡ u → X) → (unlocks x ≡ false → answers x ≡ false → before ≡ Some u → X) → X
 left_pending true x timely at before u e own old = nothing u e
-left_pending false Unlock true at before u e own old = own refl refl refl (some-injective at u e)
+left_pending false Unlock true at before u e own old = own refl refl refl (cc)
 left_pending false Unlock false at before u e own old = nothing u e
 left_pending false Answer timely at before u e own old = nothing u e
 left_pending false Commit timely at before u e own old = old refl refl e
@@ -85,7 +85,7 @@ module _ (p : PowerOn) (h : List Event) (s : Stamp) (works : Bool) (g : Frame) (
       let same = further_unheard p h s works g q.0.unlock x in
       pends_further q (subst (No Unlock) same q.0.no_unlock) (subst (No Answer) same q.0.no_answer)
 
-pub pending_unlocked : (p : PowerOn) (h : List Event) (u : Stamp) → pending_since p h ≡ some u → Pends p h u
+pub pending_unlocked : (p : PowerOn) (h : List Event) (u : Stamp) → pending_since p h ≡ Some u → Pends p h u
 unfolding stored_after
 pending_unlocked p [] u e = nothing u e
 pending_unlocked p (reset_event at ∷ h) u e = nothing u e
@@ -106,9 +106,9 @@ left_open false x right e goes_on begins =
     begins refl (answers_only x (and_left (answers x) right e)) (and_right (answers x) right e)
 
 -- a timely right answer has a challenge
-answered_timely : {X : Type 0} (serial : List ℕ) (f : Frame) (pending : Option Stamp) (at : Stamp) → timely_answer serial f pending at ≡ true → ((u : Stamp) → pending ≡ some u → is_right serial f ≡ true → at.0 ≤ u.0 + 2000 → X) → X
-answered_timely serial f none at e then = false_true (sym e)
-answered_timely serial f (some u) at e then =
+answered_timely : {X : Type 0} (serial : List ℕ) (f : Frame) (pending : Option Stamp) (at : Stamp) → timely_answer serial f pending at ≡ true → ((u : Stamp) → pending ≡ Some u → is_right serial f ≡ true → at.0 ≤ u.0 + 2000 → X) → X
+answered_timely serial f None at e then = false_true (sym e)
+answered_timely serial f (Some u) at e then =
     then u refl (and_left (is_right serial f) (in_time u at) e) (leb-true _ _ (and_right (is_right serial f) (in_time u at) e))
 
 module _ (p : PowerOn) (h : List Event) (s : Stamp) (works : Bool) (g : Frame) (t : Stamp) where

@@ -5,6 +5,7 @@ use mathlib.Core.Bool.{Bool, true, false, cond}
 use mathlib.Core.List.{◌∷◌}
 use borrow.Author.Tests.{le-ltb, lt-ltb}
 use native.Mathlib.Omega.{arith}
+use Rattle.std.specs.Prelude.{Option}
 use Rattle.words.specs.declared.Order.TheVariants.{Big}
 use Rattle.words.specs.Words.{bytes_of}
 use Rattle.words.proofs.Tests.{and_false, refuted}
@@ -19,7 +20,6 @@ use Rattle.maintenance_pages.specs.Means.{first_byte, Tells}
 use Rattle.maintenance_pages.specs.Promise.{Says}
 use Rattle.maintenance_pages.proofs.Promise.{promise as maintenance}
 use Rattle.time.specs.declared.Stamp.{Stamp}
-use Rattle.rules.specs.declared.unit.Pending.{Pending}
 use Rattle.rules.specs.declared.unit.Session.{Session}
 use Rattle.rules.specs.declared.unit.Phase.{Phase}
 use Rattle.rules.specs.declared.unit.Phase.TheVariants.{Outside, InSession}
@@ -42,14 +42,14 @@ heard_met at storing f m phase awake e h =
 
 -- ---- outside a session
 
-module _ (m : Monitor) (pending : Pending) (at : Stamp) (storing : Bool) (f : Frame) (e : m.phase ≡ Outside pending) (h : heard f m ≡ true) where
+module _ (m : Monitor) (pending : Option Stamp) (at : Stamp) (storing : Bool) (f : Frame) (e : m.phase ≡ Outside pending) (h : heard f m ≡ true) where
   says_outside : (x : Message) → message f ≡ x → framed at storing f m ≡ outside x pending at f m
   says_outside x q =
       heard_met at storing f m (Outside pending) (ap (λ (p : Phase). woken_by p at m) e) e h
       ∙ ap (λ (y : Message). outside y pending at f m) q
 
-  answers : (p : Pending) → Tells Answer f → pending ≡ p → framed at storing f m ≡ answered p at f m
-  answers p a q = says_outside Answer ((its f).answer.1 a) ∙ ap (λ (x : Pending). answered x at f m) q
+  answers : (p : Option Stamp) → Tells Answer f → pending ≡ p → framed at storing f m ≡ answered p at f m
+  answers p a q = says_outside Answer ((its f).answer.1 a) ∙ ap (λ (x : Option Stamp). answered x at f m) q
 
   -- what is neither unlock nor answer nor a serial request
   else_ignored : (Tells Unlock f → ⊥) → (Tells Answer f → ⊥) → ((w : SerialWord) → Tells (SerialRequest w) f → ⊥) → (x : Message) → message f ≡ x → outside x pending at f m ≡ ignored m

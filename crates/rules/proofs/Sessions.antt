@@ -3,8 +3,8 @@ use Prim.Native.Nat.{◌+◌, ◌≤◌}
 use mathlib.Core.Path.{◌≡◌, refl, sym, ap, subst, ◌∙◌}
 use mathlib.Core.Bool.{Bool, true, false}
 use mathlib.Core.List.{List, [], ◌∷◌, ◌++◌}
-use mathlib.Core.Option.{none, some}
 use borrow.Author.Tests.{le-leb}
+use Rattle.std.specs.Prelude.{Some, None}
 use Rattle.words.proofs.Tests.{decided, false_true}
 use Rattle.codec_pages.specs.declared.frame.Frame.{Frame}
 use Rattle.maintenance_pages.specs.declared.setting.Setting.{Setting}
@@ -41,7 +41,7 @@ module _ (p : PowerOn) (at : Stamp) (storing : Bool) (f : Frame) (before : List 
 
   -- pending since the unlock, and no session
   abbrev Challenged : List Event → Type 0
-  Challenged h = (pending_since p h ≡ some at) × ((t : Stamp) → in_session p h t ≡ false)
+  Challenged h = (pending_since p h ≡ Some at) × ((t : Stamp) → in_session p h t ≡ false)
 
   challenge_made : heard_on (stored_after p before) f ≡ true → message f ≡ Unlock → in_session p before at ≡ false → at.0 ≤ (last_start p before at).0 + 10000 → Challenged here
   challenge_made x m o l = (
@@ -71,7 +71,7 @@ module _ (p : PowerOn) (at : Stamp) (storing : Bool) (f : Frame) (before : List 
   -- open for 2,000 ms, and nothing written yet
   record Begins : Type 0 where
     opens : (t : Stamp) → t.0 ≤ at.0 + 2000 → in_session p here t ≡ true
-    unwritten : (s : Setting) → last_write p here s ≡ none
+    unwritten : (s : Setting) → last_write p here s ≡ None
 
   -- open for a message at t, with these writes
   record Lasts (h : List Event) (l : List Heard) (t : Stamp) : Type 0 where
@@ -99,7 +99,7 @@ module _ (p : PowerOn) (at : Stamp) (storing : Bool) (f : Frame) (before : List 
       })
 
 -- the challenge of an unlock is pending, and no session is open
-pub unlocked_pending : (p : PowerOn) (h : List Event) (w : Unlocked (looking_back p) h) → (pending_since p h ≡ some w.unlock.at) × ((t : Stamp) → in_session p h t ≡ false)
+pub unlocked_pending : (p : PowerOn) (h : List Event) (w : Unlocked (looking_back p) h) → (pending_since p h ≡ Some w.unlock.at) × ((t : Stamp) → in_session p h t ≡ false)
 unlocked_pending p h w =
     let u = w.unlock in
     subst (Challenged p u.at u.storing u.frame u.before) (sym u.place)

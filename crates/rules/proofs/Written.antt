@@ -4,9 +4,9 @@ use mathlib.Core.Path.{◌≡◌, refl, sym, ap, subst, ◌∙◌}
 use mathlib.Core.Bool.{true, ◌&&◌}
 use mathlib.Core.List.{List, [], ◌∷◌}
 use mathlib.Core.Logic.{inl, inr}
-use mathlib.Core.Option.{Option, none, some, some-injective}
 use lib.Dec.{eqb}
 use borrow.Author.Tests.{eqb-true, eq-eqb}
+use Rattle.std.specs.Prelude.{Option, Some, None}
 use Rattle.words.proofs.Tests.{decided, and_left, and_right}
 use Rattle.codec_pages.specs.declared.frame.Frame.{Frame}
 use Rattle.maintenance_pages.specs.declared.setting.Setting.{Setting}
@@ -22,7 +22,7 @@ use Rattle.rules.proofs.Looking.{nothing}
 
 module _ (rating : ℕ) (s : Setting) where
   -- what passes the test is a write to this setting, of a legal value
-  pub writes_only : (x : Message) (v : ℕ) → writes rating s x ≡ some v → (x ≡ Write s v) × (legal rating s v ≡ true)
+  pub writes_only : (x : Message) (v : ℕ) → writes rating s x ≡ Some v → (x ≡ Write s v) × (legal rating s v ≡ true)
   writes_only Unlock v e = nothing v e
   writes_only Answer v e = nothing v e
   writes_only Commit v e = nothing v e
@@ -32,7 +32,8 @@ module _ (rating : ℕ) (s : Setting) where
       decided (legal rating k u && eqb (code k) (code s))
       (λ t.
       let its : k ≡ s = maintenance.codes k s (eqb-true (code k) (code s) (and_right (legal rating k u) (eqb (code k) (code s)) t)) in
-      let same : u ≡ v = some-injective u v (rw t at e) in (
+      let q : ◌≡◌ {A = Option ℕ} (Some u) (Some v) = rw t at e in
+      let same : u ≡ v = cc in (
         ap (λ (i : Setting). Write i u) its ∙ ap (Write s) same,
         subst (λ (n : ℕ). legal rating s n ≡ true) same (subst (λ (i : Setting). legal rating i u ≡ true) its (and_left (legal rating k u) (eqb (code k) (code s)) t)),
       ))
@@ -40,7 +41,7 @@ module _ (rating : ℕ) (s : Setting) where
   writes_only Other v e = nothing v e
 
   -- a frame that is a write of a legal value to this setting passes it
-  written_passes : (f : Frame) (v : ℕ) → Tells (Write s v) f → Legal rating s v → writes rating s (message f) ≡ some v
+  written_passes : (f : Frame) (v : ℕ) → Tells (Write s v) f → Legal rating s v → writes rating s (message f) ≡ Some v
   written_passes f v t l =
       ap (writes rating s) (((maintenance.messages f).write s v).1 t)
       ∙ rw ((maintenance.legal rating s v).1 l, eq-eqb (code s) (code s) refl) refl
@@ -48,23 +49,23 @@ module _ (rating : ℕ) (s : Setting) where
   -- ---- the last of them
 
   abbrev pub last_accepted : List Heard → Option ℕ
-  last_accepted [] = none
+  last_accepted [] = None
   last_accepted (m ∷ ms) = newest (writes rating s (message m.frame)) (last_accepted ms)
 
   -- the newest brings a value, or none
   by_newest : (m : Heard) (ms : List Heard) (w : Option ℕ) → writes rating s (message m.frame) ≡ w → LastAccepted rating s ms (last_accepted ms) → LastAccepted rating s (m ∷ ms) (newest w (last_accepted ms))
-  by_newest m ms (some v) e older =
+  by_newest m ms (Some v) e older =
       let its = writes_only (message m.frame) v e in
       inl (v, (refl, (((maintenance.messages m.frame).write s v).0 its.0, (maintenance.legal rating s v).0 its.1)))
-  by_newest m ms none e older = inr (λ v t l. nothing v (sym e ∙ written_passes m.frame v t l), older)
+  by_newest m ms None e older = inr (λ v t l. nothing v (sym e ∙ written_passes m.frame v t l), older)
 
   pub last_there : (ms : List Heard) → LastAccepted rating s ms (last_accepted ms)
   last_there [] = refl
   last_there (m ∷ ms) = by_newest m ms (writes rating s (message m.frame)) refl (last_there ms)
 
   none_newest : (m : Heard) (older new : Option ℕ) → ((v : ℕ) → Tells (Write s v) m.frame → Legal rating s v → ⊥) → writes rating s (message m.frame) ≡ new → newest new older ≡ older
-  none_newest m older none n e = refl
-  none_newest m older (some v) n e =
+  none_newest m older None n e = refl
+  none_newest m older (Some v) n e =
       let its = writes_only (message m.frame) v e in
       absurd (n v (((maintenance.messages m.frame).write s v).0 its.0) ((maintenance.legal rating s v).0 its.1))
 

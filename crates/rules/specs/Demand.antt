@@ -1,7 +1,7 @@
 -- Demand 3 in its own words. They speak of places in the history, `since ++ (event ∷ before)`: the events since the one spoken of, that event, and the
 -- events before it, the newest first. They are said of any reading of histories: of the monitor's own state, and of the one that looks back.
-use Rattle.std.specs.Prelude.{ℕ, ◌+◌, ◌≤◌, ◌<◌, ◌≡◌, Bool, true, false, cond, List, [], ◌∷◌, ◌++◌, ◌↔◌, ◌⊎◌}
-use Rattle.std.proofs.Math.Option.{Option, none, some, get_or}
+use Rattle.std.specs.Prelude.{ℕ, ◌+◌, ◌≤◌, ◌<◌, ◌≡◌, Bool, true, false, cond, List, [], ◌∷◌, ◌++◌, ◌↔◌, ◌⊎◌, Option, Some, None}
+use Rattle.std.specs.Option.{unwrap_or}
 use Rattle.codec_pages.specs.declared.frame.Frame.{Frame}
 use Rattle.maintenance_pages.specs.declared.setting.Setting.{Setting}
 use Rattle.maintenance_pages.specs.declared.setting.Settings.{Settings}
@@ -57,9 +57,9 @@ Close first (m ∷ ms) t = (t.0 ≤ m.at.0 + 2000) × Close first ms m.at
 -- the last accepted write to a setting among what was heard, if there was one: the newest message is one, a write of a legal value, or it is none and it is the
 -- last of the others
 abbrev pub LastAccepted : ℕ → Setting → List Heard → Option ℕ → Type 0
-LastAccepted rating s [] w = w ≡ none
+LastAccepted rating s [] w = w ≡ None
 LastAccepted rating s (m ∷ ms) w =
-    ((v : ℕ) × ((w ≡ some v) × (Tells (Write s v) m.frame × Legal rating s v)))
+    ((v : ℕ) × ((w ≡ Some v) × (Tells (Write s v) m.frame × Legal rating s v)))
     ⊎ (((v : ℕ) → Tells (Write s v) m.frame → Legal rating s v → ⊥) × LastAccepted rating s ms w)
 
 -- ---- the session
@@ -118,7 +118,7 @@ pub record Changes (p : PowerOn) (r : Reading) (h : List Event) (e : Event) : Ty
   -- "They change only at": where one of the six differs
   pub only : (s : Setting) → (value_of (r.stored (e ∷ h)) s ≡ value_of (r.stored h) s → ⊥) → Stores p r h e
   -- "Each setting then takes that session's last accepted write to it, if there was one."
-  pub takes : (w : Stores p r h e) (s : Setting) (v : Option ℕ) → LastAccepted p.rating s (heard_since r h w.session.answer) v → value_of (r.stored (e ∷ h)) s ≡ get_or v (value_of (r.stored h) s)
+  pub takes : (w : Stores p r h e) (s : Setting) (v : Option ℕ) → LastAccepted p.rating s (heard_since r h w.session.answer) v → value_of (r.stored (e ∷ h)) s ≡ unwrap_or v (value_of (r.stored h) s)
   -- "At every other event all six stay."
   pub stays : (Stores p r h e → ⊥) → r.stored (e ∷ h) ≡ r.stored h
 

@@ -1,7 +1,6 @@
 -- What is given on paper, with document 01's values.
-use Rattle.std.specs.Prelude.{ℕ, Bool, true, false, List, take}
+use Rattle.std.specs.Prelude.{ℕ, List, take, Option, Some, None}
 use Rattle.codec_pages.specs.declared.frame.Frame.{Frame}
-use Rattle.maintenance_pages.specs.declared.message.Reply.{Reply}
 
 -- the monitor is on; no reply; the identifier and the bytes of a reply; the ticks of the uptime
 pub data Given : Type 0 where
@@ -10,9 +9,6 @@ pub data Given : Type 0 where
   reply : ℕ → List ℕ → Given
   ticks : ℕ → Given
 
-abbrev pub given_frame : Bool → Frame → Given
-given_frame false f = quiet
-given_frame true f = reply f.identifier (take f.length f.bytes)
-
-abbrev pub given_reply : Reply → Given
-given_reply r = given_frame r.sent r.frame
+abbrev pub given_reply : Option Frame → Given
+given_reply None = quiet
+given_reply (Some f) = reply f.identifier (take f.length f.bytes)

@@ -1,19 +1,15 @@
 -- What the rules promise, for every monitor, every frame and every run of events. `proofs/Promise` proves it.
-use Rattle.std.specs.Prelude.{ℕ, ◌+◌, ◌<◌, ◌≤◌, ◌≡◌, Bool, true, false, List, ◌∷◌}
-use Rattle.std.proofs.Math.Option.{Option}
+use Rattle.std.specs.Prelude.{ℕ, ◌+◌, ◌<◌, ◌≤◌, ◌≡◌, Bool, true, false, List, ◌∷◌, Option, Some, None}
 use Rattle.codec_pages.specs.declared.frame.Frame.{Frame}
 use Rattle.codec_pages.specs.Frames.{over_limits}
 use Rattle.maintenance_pages.specs.declared.setting.Setting.{Setting}
 use Rattle.maintenance_pages.specs.declared.setting.Setting.TheVariants.{Speed}
 use Rattle.maintenance_pages.specs.declared.setting.Settings.{Settings}
-use Rattle.maintenance_pages.specs.declared.message.Reply.{Reply}
 use Rattle.maintenance_pages.specs.Settings.{with_value}
 use Rattle.maintenance_pages.specs.Means.{Acceptable}
 use Rattle.maintenance_pages.specs.Messages.{heard_on, quiet as no_reply}
 use Rattle.time.specs.declared.Stamp.{Stamp}
 use Rattle.rules.specs.declared.unit.Session.{Session}
-use Rattle.rules.specs.declared.unit.Pending.{Pending}
-use Rattle.rules.specs.declared.unit.Pending.TheVariants.{Nothing}
 use Rattle.rules.specs.declared.unit.Phase.{Phase}
 use Rattle.rules.specs.declared.unit.Phase.TheVariants.{Outside, InSession}
 use Rattle.rules.specs.declared.unit.Monitor.{Monitor}
@@ -34,7 +30,7 @@ pub record Fresh (bytes : List ℕ) (volts : ℕ) (k : Settings) (at : Stamp) (m
   pub rating : m.rating ≡ volts
   pub stored : m.stored ≡ k
   pub start : m.start ≡ at
-  pub locked : m.phase ≡ Outside Nothing
+  pub locked : m.phase ≡ Outside None
 
 -- "Frames not heard get no reply", and change nothing but what silence has already changed.
 abbrev pub UnheardChangesNothing : Type 0
@@ -97,8 +93,8 @@ abbrev pub OneLast : Type 0
 OneLast = (rating : ℕ) (s : Setting) (l : List Heard) → (w : Option ℕ) × (LastAccepted rating s l w × ((u : Option ℕ) → LastAccepted rating s l u → u ≡ w))
 
 -- a reply is an extended frame on the identifier, of eight bytes at most
-abbrev pub OnIdentifier : ℕ → Reply → Type 0
-OnIdentifier identifier r = r.sent ≡ true → (r.frame.extended ≡ true) × ((r.frame.identifier ≡ identifier) × (r.frame.length ≤ 8))
+abbrev pub OnIdentifier : ℕ → Option Frame → Type 0
+OnIdentifier identifier r = (f : Frame) → r ≡ Some f → (f.extended ≡ true) × ((f.identifier ≡ identifier) × (f.length ≤ 8))
 
 -- what the history says is legal, and said on the stored identifier
 pub record Sound (p : PowerOn) (h : List Event) : Type 0 where
@@ -114,7 +110,7 @@ pub record Promise : Type 0 where
   pub silence : MeetsAsWoken
   pub unheard : UnheardChangesNothing
   pub speed : SpeedChangesNothing
-  pub outside : (m : Monitor) (pending : Pending) (at : Stamp) (storing : Bool) (f : Frame) → m.phase ≡ Outside pending → heard_on m.stored f ≡ true → OutsideReplies m pending at storing f
+  pub outside : (m : Monitor) (pending : Option Stamp) (at : Stamp) (storing : Bool) (f : Frame) → m.phase ≡ Outside pending → heard_on m.stored f ≡ true → OutsideReplies m pending at storing f
   pub session : (m : Monitor) (s : Session) (at : Stamp) (storing : Bool) (f : Frame) → m.phase ≡ InSession s → at.0 ≤ s.heard.0 + 2000 → heard_on m.stored f ≡ true → SessionReplies m s at storing f
   pub past_length : (e e' : Event) → AlikeEvents e e' → SameEvent e e'
   pub past_lengths : (p : PowerOn) (h h' : List Event) → AlikeHistories h h' → Run p h → SameHistory p h h'

@@ -1,6 +1,6 @@
 -- The replies of the maintenance page, and of document 01 where it completes it, as what a heard frame leaves: a row for each sentence, with its
 -- numbers and bytes; which frame it is about is said by length and bytes (`Tells`). `Promise` says that they are the monitor's.
-use Rattle.std.specs.Prelude.{ℕ, ◌+◌, ◌<◌, ◌≤◌, ◌≡◌, Bool, true, false, List, [], ◌∷◌}
+use Rattle.std.specs.Prelude.{ℕ, ◌+◌, ◌<◌, ◌≤◌, ◌≡◌, Bool, true, false, List, [], ◌∷◌, Option, Some, None}
 use Rattle.words.specs.declared.Order.TheVariants.{Big}
 use Rattle.words.specs.Words.{Bytes, bytes_of}
 use Rattle.codec_pages.specs.declared.frame.Frame.{Frame}
@@ -12,8 +12,6 @@ use Rattle.maintenance_pages.specs.Settings.{value_of, with_value}
 use Rattle.maintenance_pages.specs.Messages.{serial_report, quiet, says}
 use Rattle.maintenance_pages.specs.Means.{first_byte, Tells, right_bytes, serial_bytes, Legal}
 use Rattle.time.specs.declared.Stamp.{Stamp}
-use Rattle.rules.specs.declared.unit.Pending.{Pending}
-use Rattle.rules.specs.declared.unit.Pending.TheVariants.{Nothing, Since}
 use Rattle.rules.specs.declared.unit.Session.{Session}
 use Rattle.rules.specs.declared.unit.Phase.{Phase}
 use Rattle.rules.specs.declared.unit.Phase.TheVariants.{Outside}
@@ -38,13 +36,13 @@ Right m f = part f.bytes 1 7 ≡ right_bytes m.serial
 
 -- ---- a frame heard outside a session
 
-pub record OutsideReplies (m : Monitor) (pending : Pending) (at : Stamp) (storing : Bool) (f : Frame) : Type 0 where
-  pub unlock : Tells Unlock f → at.0 ≤ m.start.0 + 10000 → framed at storing f m ≡ moves m (Outside (Since at)) (0x14 ∷ part m.serial 0 7)
-  pub late_unlock_lem : Tells Unlock f → m.start.0 + 10000 < at.0 → framed at storing f m ≡ moves m (Outside Nothing) NAK
-  pub answer : (since : Stamp) → Tells Answer f → pending ≡ Since since → Right m f → at.0 ≤ since.0 + 2000 → framed at storing f m ≡ moves m (session_at at m.stored) ACK
-  pub wrong_answer : (since : Stamp) → Tells Answer f → pending ≡ Since since → (Right m f → ⊥) → framed at storing f m ≡ moves m (Outside Nothing) NAK
-  pub late_answer_lem : (since : Stamp) → Tells Answer f → pending ≡ Since since → since.0 + 2000 < at.0 → framed at storing f m ≡ moves m (Outside Nothing) NAK
-  pub no_challenge : Tells Answer f → pending ≡ Nothing → framed at storing f m ≡ turn m quiet
+pub record OutsideReplies (m : Monitor) (pending : Option Stamp) (at : Stamp) (storing : Bool) (f : Frame) : Type 0 where
+  pub unlock : Tells Unlock f → at.0 ≤ m.start.0 + 10000 → framed at storing f m ≡ moves m (Outside (Some at)) (0x14 ∷ part m.serial 0 7)
+  pub late_unlock_lem : Tells Unlock f → m.start.0 + 10000 < at.0 → framed at storing f m ≡ moves m (Outside None) NAK
+  pub answer : (since : Stamp) → Tells Answer f → pending ≡ Some since → Right m f → at.0 ≤ since.0 + 2000 → framed at storing f m ≡ moves m (session_at at m.stored) ACK
+  pub wrong_answer : (since : Stamp) → Tells Answer f → pending ≡ Some since → (Right m f → ⊥) → framed at storing f m ≡ moves m (Outside None) NAK
+  pub late_answer_lem : (since : Stamp) → Tells Answer f → pending ≡ Some since → since.0 + 2000 < at.0 → framed at storing f m ≡ moves m (Outside None) NAK
+  pub no_challenge : Tells Answer f → pending ≡ None → framed at storing f m ≡ turn m quiet
   -- whatever the monitor holds, the report that the codec builds; and its bytes, where the identifier and the serial number are such
   pub serial : (w : SerialWord) → Tells (SerialRequest w) f → framed at storing f m ≡ turn m (serial_report m.stored.transmit m.serial w)
   pub serial_bytes_lem : (w : SerialWord) → Tells (SerialRequest w) f → m.stored.transmit ≤ 0x1FFFFFFF → Bytes m.serial → framed at storing f m ≡ turn m (says m.stored.transmit (serial_bytes w m.serial))

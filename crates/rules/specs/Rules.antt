@@ -1,6 +1,6 @@
 -- The rules of document 01's "The bench monitor", one by one. A rule takes the monitor as it is and gives it as it is after, with
 -- the reply. Each is defined for every monitor there is.
-use Rattle.std.specs.Prelude.{ℕ, Bool, true, false, not, cond, ◌&&◌, List, [], ◌∷◌}
+use Rattle.std.specs.Prelude.{ℕ, Bool, true, false, not, cond, ◌&&◌, List, [], ◌∷◌, Option, Some, None}
 use Rattle.codec_pages.specs.declared.frame.Frame.{Frame}
 use Rattle.time.specs.declared.Stamp.{Stamp}
 use Rattle.time.specs.declared.Ticks.{Ticks}
@@ -9,9 +9,6 @@ use Rattle.maintenance_pages.specs.declared.setting.Settings.{Settings}
 use Rattle.maintenance_pages.specs.declared.message.SerialWord.{SerialWord}
 use Rattle.maintenance_pages.specs.declared.message.Message.{Message}
 use Rattle.maintenance_pages.specs.declared.message.Message.TheVariants.{Other, Unlock, Commit, Answer, SerialRequest, Read, Write}
-use Rattle.maintenance_pages.specs.declared.message.Reply.{Reply}
-use Rattle.rules.specs.declared.unit.Pending.{Pending}
-use Rattle.rules.specs.declared.unit.Pending.TheVariants.{Nothing, Since}
 use Rattle.rules.specs.declared.unit.Phase.{Phase}
 use Rattle.rules.specs.declared.unit.Phase.TheVariants.{Outside, InSession}
 use Rattle.rules.specs.declared.unit.Monitor.{Monitor}
@@ -21,7 +18,7 @@ use Rattle.rules.specs.Events.{Event, frame_event, reset_event, PowerOn}
 use Rattle.maintenance_pages.specs.Settings.{legal, value_of, with_value}
 use Rattle.maintenance_pages.specs.Messages.{message, heard_on, is_right, quiet, ack, nak, challenged, shown, serial_report}
 
-abbrev pub turn : Monitor → Reply → Turn
+abbrev pub turn : Monitor → Option Frame → Turn
 turn m reply = record { monitor = m; reply = reply }
 
 abbrev pub in_phase : Phase → Monitor → Monitor
@@ -52,7 +49,7 @@ late_answer since at = past_limit since 2000 at
 
 -- "Every start, power-on's too, leaves it locked, with no draft and nothing pending."
 abbrev pub started_with : List ℕ → ℕ → Settings → Stamp → Monitor
-started_with serial rating stored at = record { serial = serial; rating = rating; stored = stored; start = at; phase = Outside Nothing }
+started_with serial rating stored at = record { serial = serial; rating = rating; stored = stored; start = at; phase = Outside None }
 
 -- the same unit starts, with these settings stored
 abbrev pub started : Stamp → Settings → Monitor → Monitor
@@ -77,13 +74,13 @@ ignored m = turn m quiet
 
 -- "NAK, nothing pending"
 abbrev pub given_up : Monitor → Turn
-given_up m = turn (in_phase (Outside Nothing) m) (nak (transmit_id m))
+given_up m = turn (in_phase (Outside None) m) (nak (transmit_id m))
 
 abbrev pub session_at : Stamp → Settings → Phase
 session_at at draft = InSession (record { heard = at; draft = draft })
 
 -- "every heard frame, of any length or content, restarts the 2,000 ms"
-abbrev pub goes_on : Stamp → Settings → Reply → Monitor → Turn
+abbrev pub goes_on : Stamp → Settings → Option Frame → Monitor → Turn
 goes_on at draft reply m = turn (in_phase (session_at at draft) m) reply
 
 -- ---- outside a session
@@ -93,13 +90,13 @@ goes_on at draft reply m = turn (in_phase (session_at at draft) m) reply
 abbrev pub unlocked : Stamp → Monitor → Turn
 unlocked at m =
     cond (late_unlock m.start at) (given_up m)
-    (turn (in_phase (Outside (Since at)) m) (challenged (transmit_id m) m.serial))
+    (turn (in_phase (Outside (Some at)) m) (challenged (transmit_id m) m.serial))
 
 -- "Nothing pending: no reply. Right and at most 2,000 ms after the challenge: ACK, session open, draft equal to stored. Wrong or
 -- late: NAK, nothing pending, no restart."
-abbrev pub answered : Pending → Stamp → Frame → Monitor → Turn
-answered Nothing at f m = ignored m
-answered (Since since) at f m =
+abbrev pub answered : Option Stamp → Stamp → Frame → Monitor → Turn
+answered None at f m = ignored m
+answered (Some since) at f m =
     cond (is_right m.serial f && not (late_answer since at))
     (goes_on at m.stored (ack (transmit_id m)) m)
     (given_up m)
@@ -109,7 +106,7 @@ abbrev pub serial_asked : SerialWord → Monitor → Turn
 serial_asked w m = turn m (serial_report (transmit_id m) m.serial w)
 
 -- "All else, F0 included, gets no reply. None of these requests, answered or not, touches a pending challenge"
-abbrev pub outside : Message → Pending → Stamp → Frame → Monitor → Turn
+abbrev pub outside : Message → Option Stamp → Stamp → Frame → Monitor → Turn
 outside Unlock pending at f m = unlocked at m
 outside Answer pending at f m = answered pending at f m
 outside (SerialRequest w) pending at f m = serial_asked w m

@@ -1,14 +1,7 @@
 // What a monitor holds, and what an event leaves.
-use maintenance_pages::message::Reply;
+use codec_pages::frame::Frame;
 use maintenance_pages::setting::Settings;
 use time::Stamp;
-
-// A challenge that waits for its answer, since its stamp.
-#[derive(Clone, Copy)]
-pub enum Pending {
-    Nothing,
-    Since(Stamp),
-}
 
 // A session: the stamp of the last heard message, and the draft.
 #[derive(Clone, Copy)]
@@ -17,9 +10,10 @@ pub struct Session {
     pub draft: Settings,
 }
 
+// Outside a session a challenge may wait for its answer, since its stamp.
 #[derive(Clone, Copy)]
 pub enum Phase {
-    Outside(Pending),
+    Outside(Option<Stamp>),
     InSession(Session),
 }
 
@@ -32,9 +26,9 @@ pub struct Monitor {
     pub phase: Phase,
 }
 
-// What an event leaves: the monitor, and its reply.
+// What an event leaves: the monitor, and its reply, if there is one.
 #[derive(Clone, Copy)]
 pub struct Turn {
     pub monitor: Monitor,
-    pub reply: Reply,
+    pub reply: Option<Frame>,
 }

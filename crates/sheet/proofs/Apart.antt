@@ -8,17 +8,17 @@ use lib.Dec.{ltb}
 use lib.ListN.{length, take, drop, length-append, length-take, take-append-drop, drop_of_length-le}
 use lib.Seq.{take_all, take-take, take-append-add, take-nil, length-take-le}
 use borrow.Author.Tests.{ltb-true, ltb-false}
+use Rattle.std.specs.Prelude.{Result, Ok, Err}
 use Rattle.words.proofs.Tests.{decided}
+use Rattle.refusal.specs.declared.Refusal.{Refusal}
 use Rattle.maintenance_pages.specs.declared.setting.Setting.TheVariants.{ReceiveId, TransmitId, Speed, Voltage, WarningLevel, FaultLevel}
 use Rattle.maintenance_pages.specs.declared.setting.Settings.{Settings}
-use Rattle.sheet.specs.declared.reading.Judged.{Judged}
-use Rattle.sheet.specs.declared.reading.Judged.TheVariants.{Sheet, Wrong}
-use Rattle.sheet.specs.declared.reading.SheetRead.{SheetRead}
-use Rattle.sheet.specs.declared.reading.SheetRead.TheVariants.{Settings as ReadSettings, Refused}
-use Rattle.sheet.specs.Sheet.{lines_of, joined, sheet_text, is_legal, IsSheet, GoesOn, FirstWrong, Judges, Reads}
+use Rattle.sheet.specs.declared.reading.WrongLine.{WrongLine}
+use Rattle.std.specs.List.{concat}
+use Rattle.sheet.specs.Sheet.{lines_of, sheet_text, is_legal, IsSheet, GoesOn, FirstWrong, Judges, Reads}
 use Rattle.sheet_line.proofs.Promise.{promise as lines}
 use Rattle.sheet.proofs.Judging.{legal_parts}
-use Rattle.sheet.proofs.Sheets.{joined_at, sheet_not_wrong, sheet_length}
+use Rattle.sheet.proofs.Sheets.{concat_at, sheet_not_wrong, sheet_length}
 
 -- ---- lines and sheets
 
@@ -42,16 +42,16 @@ one_sheet s k m x y = sheets_apart k m x.legal y.legal (sym x.same ∙ y.same)
 fewer : (s : List ℕ) (n m : ℕ) → n ≤ m → GoesOn s m → GoesOn s n
 fewer s n m h g =
     let ls = lines_of g.settings in
-    let after = joined (drop n (take m ls)) in
+    let after = concat (drop n (take m ls)) in
     record {
       settings = g.settings;
       rest = after ++ g.rest;
       legal = g.legal;
       same = g.same
-          ∙ ap (λ (t : List ℕ). t ++ g.rest) (joined_at n (take m ls) ∙ ap (λ (u : List (List ℕ)). joined u ++ after) (take-take n m ls h))
-          ∙ append_assoc (joined (take n ls)) after g.rest;
+          ∙ ap (λ (t : List ℕ). t ++ g.rest) (concat_at n (take m ls) ∙ ap (λ (u : List (List ℕ)). concat u ++ after) (take-take n m ls h))
+          ∙ append_assoc (concat (take n ls)) after g.rest;
       nothing = λ more. let few = length-take m ls in
-          ap (λ (t : List ℕ). t ++ g.rest) (ap joined (drop_of_length-le (take m ls) {i = n} (omega (arith, few, more)))) ∙ g.nothing (omega (arith, more, h));
+          ap (λ (t : List ℕ). t ++ g.rest) (ap concat (drop_of_length-le (take m ls) {i = n} (omega (arith, few, more)))) ∙ g.nothing (omega (arith, more, h));
     }
 
 not_later : (s : List ℕ) (n m : ℕ) → FirstWrong s n → FirstWrong s m → n < m → ⊥
@@ -68,7 +68,7 @@ whole_sheet : (s : List ℕ) (n : ℕ) → 6 < n → (g : GoesOn s n) → IsShee
 whole_sheet s n h g =
     record {
       legal = g.legal;
-      same = g.same ∙ ap (λ (t : List ℕ). joined (take n (lines_of g.settings)) ++ t) (g.nothing h) ∙ append-nil (joined (take n (lines_of g.settings))) ∙ ap joined (take_all n (lines_of g.settings) (omega (arith, h)));
+      same = g.same ∙ ap (λ (t : List ℕ). concat (take n (lines_of g.settings)) ++ t) (g.nothing h) ∙ append-nil (concat (take n (lines_of g.settings))) ∙ ap concat (take_all n (lines_of g.settings) (omega (arith, h)));
     }
 
 pub line_most : (s : List ℕ) (n : ℕ) → FirstWrong s n → n ≤ 7
@@ -79,23 +79,26 @@ line_most s n x =
 
 -- ---- one outcome only
 
-pub one_judged : (s : List ℕ) (j j' : Judged) → Judges s j → Judges s j' → j ≡ j'
-one_judged s (Sheet k) (Sheet m) x y = ap Sheet (one_sheet s k m x y)
-one_judged s (Sheet k) (Wrong n) x y = absurd (sheet_not_wrong s k n x y)
-one_judged s (Wrong n) (Sheet k) x y = absurd (sheet_not_wrong s k n y x)
-one_judged s (Wrong n) (Wrong m) x y = ap Wrong (one_line s n m x y)
+same_number : (a b : WrongLine) → a.0 ≡ b.0 → a ≡ b
+same_number a b e = λ i. record { 0 = e i }
 
-pub one_read : (s : List ℕ) (r r' : SheetRead) → Reads s r → Reads s r' → r ≡ r'
-one_read s (ReadSettings k) (ReadSettings m) x y = ap ReadSettings (one_sheet s k m x y)
-one_read s (ReadSettings k) (Refused w) x y = absurd (y.1 k x)
-one_read s (Refused w) (ReadSettings k) x y = absurd (x.1 k y)
-one_read s (Refused w) (Refused w') x y = ap Refused (x.0 ∙ sym y.0)
+pub one_judged : (s : List ℕ) (j j' : Result Settings WrongLine) → Judges s j → Judges s j' → j ≡ j'
+one_judged s (Ok k) (Ok m) x y = ap Ok (one_sheet s k m x y)
+one_judged s (Ok k) (Err n) x y = absurd (sheet_not_wrong s k n.0 x y)
+one_judged s (Err n) (Ok k) x y = absurd (sheet_not_wrong s k n.0 y x)
+one_judged s (Err n) (Err m) x y = ap Err (same_number n m (one_line s n.0 m.0 x y))
+
+pub one_read : (s : List ℕ) (r r' : Result Settings Refusal) → Reads s r → Reads s r' → r ≡ r'
+one_read s (Ok k) (Ok m) x y = ap Ok (one_sheet s k m x y)
+one_read s (Ok k) (Err w) x y = absurd (y.1 k x)
+one_read s (Err w) (Ok k) x y = absurd (x.1 k y)
+one_read s (Err w) (Err w') x y = ap Err (x.0 ∙ sym y.0)
 
 -- ---- the first bytes decide
 
-lines_length : (k : Settings) (n : ℕ) → is_legal k ≡ true → length (joined (take n (lines_of k))) ≤ 84
+lines_length : (k : Settings) (n : ℕ) → is_legal k ≡ true → length (concat (take n (lines_of k))) ≤ 84
 lines_length k n l =
-    let all = ap length (joined_at n (lines_of k)) ∙ length-append (joined (take n (lines_of k))) (joined (drop n (lines_of k))) in
+    let all = ap length (concat_at n (lines_of k)) ∙ length-append (concat (take n (lines_of k))) (concat (drop n (lines_of k))) in
     let most = sheet_length k l in
     omega (arith, all, most)
 
@@ -108,7 +111,7 @@ no_more s h =
 
 first_on : (s : List ℕ) (n : ℕ) → GoesOn s n → GoesOn (take 85 s) n
 first_on s n g =
-    let there = joined (take n (lines_of g.settings)) in
+    let there = concat (take n (lines_of g.settings)) in
     let long = lines_length g.settings n g.legal in
     let left : ℕ = 85 - length there in
     record {
@@ -125,7 +128,7 @@ on_from_first s n g =
       settings = g.settings;
       rest = g.rest ++ drop 85 s;
       legal = g.legal;
-      same = sym (take-append-drop 85 s) ∙ ap (λ (t : List ℕ). t ++ drop 85 s) g.same ∙ append_assoc (joined (take n (lines_of g.settings))) g.rest (drop 85 s);
+      same = sym (take-append-drop 85 s) ∙ ap (λ (t : List ℕ). t ++ drop 85 s) g.same ∙ append_assoc (concat (take n (lines_of g.settings))) g.rest (drop 85 s);
       nothing = λ h. let x = whole_sheet (take 85 s) n h g in
           let few = sheet_length g.settings g.legal in
           let long = ap length x.same in
@@ -133,10 +136,10 @@ on_from_first s n g =
           ap (λ (t : List ℕ). t ++ drop 85 s) (g.nothing h) ∙ drop_of_length-le s {i = 85} (omega (arith, long, few, all));
     }
 
-pub first_decide : (s : List ℕ) (j : Judged) → Judges (take 85 s) j → Judges s j
-first_decide s (Sheet k) x =
+pub first_decide : (s : List ℕ) (j : Result Settings WrongLine) → Judges (take 85 s) j → Judges s j
+first_decide s (Ok k) x =
     let few = sheet_length k x.legal in
     let long = ap length x.same in
     record { legal = x.legal; same = sym (no_more s (omega (arith, long, few))) ∙ x.same }
-first_decide s (Wrong n) x =
-    record { counted = x.counted; before = on_from_first s (n - 1) x.before; wrong = λ g. x.wrong (first_on s n g) }
+first_decide s (Err n) x =
+    record { counted = x.counted; before = on_from_first s (n.0 - 1) x.before; wrong = λ g. x.wrong (first_on s n.0 g) }

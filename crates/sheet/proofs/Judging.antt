@@ -1,106 +1,27 @@
 -- Six lines read one after another tell how far the bytes go on as a sheet. Assumes nothing.
 use Prim.Native.Nat.{ℕ, zero, suc, ◌+◌, ◌-◌, ◌≤◌, ◌<◌}
-use native.Mathlib.Nat.{le_refl}
 use native.Mathlib.Omega.{arith}
 use mathlib.Core.Path.{◌≡◌, refl, sym, ap, subst, ◌∙◌}
-use mathlib.Core.Bool.{Bool, true, false, cond, ◌&&◌}
+use mathlib.Core.Bool.{Bool, true, ◌&&◌}
 use mathlib.Core.List.{List, [], ◌∷◌, ◌++◌, append_assoc, append-nil}
-use lib.Dec.{eqb, ltb}
-use lib.ListN.{length, take, drop, length-drop}
-use lib.Seq.{drop-length}
-use borrow.Author.Tests.{eq-eqb, eqb-true, ltb-true, ltb-false}
-use Rattle.words.proofs.Tests.{decided, false_true, and_left, and_right}
+use lib.ListN.{length, get_or, take, drop, length-drop, drop_of_length-le}
+use Rattle.std.specs.Prelude.{Option, Some, None, Result, Ok, Err}
+use Rattle.std.specs.Option.{ok_or}
+use Rattle.std.specs.List.{concat, list_all}
+use Rattle.std.proofs.Math.Bool.{and_assoc, and-true}
+use Rattle.std.proofs.lemmas.List.Folds.{concat-append}
+use Rattle.std.proofs.lemmas.Option.{none-some}
+use Rattle.words.proofs.Tests.{and_left, and_right}
 use Rattle.maintenance_pages.specs.declared.setting.Setting.{Setting}
 use Rattle.maintenance_pages.specs.declared.setting.Setting.TheVariants.{ReceiveId, TransmitId, Speed, Voltage, WarningLevel, FaultLevel}
 use Rattle.maintenance_pages.specs.declared.setting.Settings.{Settings}
+use Rattle.maintenance_pages.specs.Settings.{in_code_order, value_of, with_value}
 use Rattle.sheet_line.specs.declared.reading.Line.{Line}
 use Rattle.sheet_line.specs.Lines.{line_text, may_hold}
-use Rattle.sheet_line.specs.Reading.{ReadsLine}
-use Rattle.sheet.specs.Sheet.{lines_of, joined, sheet_text, is_legal, IsSheet, GoesOn, FirstWrong, leading}
-
--- ---- how many hold before the first that does not
-
-pub leading_most : (bs : List Bool) → leading bs ≤ length bs
-leading_most [] = le_refl 0
-leading_most (true ∷ bs) = let r = leading_most bs in omega (arith, r)
-leading_most (false ∷ bs) = omega arith
-
-leading_short : (bs : List Bool) (g : Bool) → leading (bs ++ (g ∷ [])) < length bs → leading bs ≡ leading (bs ++ (g ∷ []))
-leading_short [] g h = absurd (omega (arith, h))
-leading_short (true ∷ bs) g h = ap suc (leading_short bs g (omega (arith, h)))
-leading_short (false ∷ bs) g h = refl
-
-leading_all : (bs : List Bool) (g : Bool) → length bs ≤ leading (bs ++ (g ∷ [])) → (leading bs ≡ length bs) × (leading (bs ++ (g ∷ [])) ≡ length bs + leading (g ∷ []))
-leading_all [] g h = (refl, let e : leading (g ∷ []) ≡ 0 + leading (g ∷ []) = omega arith in e)
-leading_all (true ∷ bs) g h = let r = leading_all bs g (omega (arith, h)) in (ap suc r.0, let e = r.1 in omega (arith, e))
-leading_all (false ∷ bs) g h = absurd (omega (arith, h))
-
--- ---- lines one after another
-
--- a line that was looked for at a place: whether it was there, its text, and the next place
-pub record Step : Type 0 where
-  pub right : Bool
-  pub text : List ℕ
-  pub next : ℕ
-
-abbrev rights_of : List Step → List Bool
-rights_of [] = []
-rights_of (x ∷ xs) = x.right ∷ rights_of xs
-
-abbrev texts_of : List Step → List (List ℕ)
-texts_of [] = []
-texts_of (x ∷ xs) = x.text ∷ texts_of xs
-
--- the place after the lines that were there
-abbrev after_of : ℕ → List Step → ℕ
-after_of at [] = at
-after_of at (x ∷ xs) = cond x.right (after_of x.next xs) at
-
--- each line that was there is there
-abbrev Follows : List ℕ → ℕ → List Step → Type 0
-Follows s at [] = Unit
-Follows s at (x ∷ xs) = (x.right ≡ true → drop at s ≡ x.text ++ drop x.next s) × Follows s x.next xs
-
-goes : (s : List ℕ) (at : ℕ) (xs : List Step) → Follows s at xs → drop at s ≡ joined (take (leading (rights_of xs)) (texts_of xs)) ++ drop (after_of at xs) s
-goes s at [] f = refl
-goes s at (x ∷ xs) f =
-    decided x.right
-    (λ t. subst (λ (b : Bool). drop at s ≡ joined (take (leading (b ∷ rights_of xs)) (texts_of (x ∷ xs))) ++ drop (cond b (after_of x.next xs) at) s) (sym t)
-    (f.0 t ∙ ap (λ (u : List ℕ). x.text ++ u) (goes s x.next xs f.1) ∙ sym (append_assoc x.text (joined (take (leading (rights_of xs)) (texts_of xs))) (drop (after_of x.next xs) s))))
-    (λ t. subst (λ (b : Bool). drop at s ≡ joined (take (leading (b ∷ rights_of xs)) (texts_of (x ∷ xs))) ++ drop (cond b (after_of x.next xs) at) s) (sym t) refl)
-
--- a line that is there was found there
-abbrev Finds : List ℕ → ℕ → List Step → List (List ℕ) → Type 0
-Finds s at [] ts = Unit
-Finds s at (x ∷ xs) [] = Unit
-Finds s at (x ∷ xs) (t ∷ ts) = ((rest : List ℕ) → drop at s ≡ t ++ rest → (x.right ≡ true) × (drop x.next s ≡ rest)) × Finds s x.next xs ts
-
-most : (s : List ℕ) (at : ℕ) (xs : List Step) (ts : List (List ℕ)) (n : ℕ) (rest : List ℕ) → Finds s at xs ts → n ≤ length xs → n ≤ length ts → drop at s ≡ joined (take n ts) ++ rest → n ≤ leading (rights_of xs)
-most s at xs ts zero rest f h k e = omega arith
-most s at [] ts (suc n) rest f h k e = absurd (omega (arith, h))
-most s at (x ∷ xs) [] (suc n) rest f h k e = absurd (omega (arith, k))
-most s at (x ∷ xs) (t ∷ ts) (suc n) rest f h k e =
-    let here = f.0 (joined (take n ts) ++ rest) (e ∙ append_assoc t (joined (take n ts)) rest) in
-    let more = most s x.next xs ts n rest f.1 (omega (arith, h)) (omega (arith, k)) here.1 in
-    subst (λ (b : Bool). suc n ≤ leading (b ∷ rights_of xs)) (sym here.0) (omega (arith, more))
-
--- the place after all of them
-abbrev last_of : ℕ → List Step → ℕ
-last_of at [] = at
-last_of at (x ∷ xs) = last_of x.next xs
-
-whole : (s : List ℕ) (at : ℕ) (xs : List Step) (ts : List (List ℕ)) (rest : List ℕ) → length xs ≡ length ts → Finds s at xs ts → drop at s ≡ joined ts ++ rest → drop (last_of at xs) s ≡ rest
-whole s at [] [] rest l f e = e
-whole s at [] (t ∷ ts) rest l f e = absurd (omega (arith, l))
-whole s at (x ∷ xs) [] rest l f e = absurd (omega (arith, l))
-whole s at (x ∷ xs) (t ∷ ts) rest l f e = whole s x.next xs ts rest (omega (arith, l)) f.1 (f.0 (joined ts ++ rest) (e ∙ append_assoc t (joined ts) rest)).1
-
-after_last : (at : ℕ) (xs : List Step) → leading (rights_of xs) ≡ length xs → after_of at xs ≡ last_of at xs
-after_last at [] e = refl
-after_last at (x ∷ xs) e =
-    decided x.right
-    (λ t. ap (λ (b : Bool). cond b (after_of x.next xs) at) t ∙ after_last x.next xs (let q = sym (ap (λ (b : Bool). leading (b ∷ rights_of xs)) t) ∙ e in omega (arith, q)))
-    (λ t. absurd (let q = sym (ap (λ (b : Bool). leading (b ∷ rights_of xs)) t) ∙ e in omega (arith, q)))
+use Rattle.sheet_line.specs.Reading.{IsLineAt, ReadsLine}
+use Rattle.sheet_line.proofs.Promise.{promise as lines}
+use Rattle.sheet.specs.declared.reading.WrongLine.{WrongLine}
+use Rattle.sheet.specs.Sheet.{lines_of, sheet_text, is_legal, IsSheet, GoesOn, FirstWrong}
 
 -- ---- settings that a sheet may hold, part by part
 
@@ -135,105 +56,165 @@ legal_parts k l =
       fault = and_right (a && b && c && d && e) _ l;
     }
 
--- ---- the six lines of a sheet
+all_six : (a b c d e f : Bool) → (a && (b && (c && (d && (e && (f && true)))))) ≡ (a && b && c && d && e && f)
+all_six a b c d e f = simp (and_assoc, and-true)
 
-pub record Six (s : List ℕ) (rx tx speed voltage warning fault : Line) : Type 0 where
-  pub first : ReadsLine ReceiveId s 0 rx
-  pub second : ReadsLine TransmitId s rx.next tx
-  pub third : ReadsLine Speed s tx.next speed
-  pub fourth : ReadsLine Voltage s speed.next voltage
-  pub fifth : ReadsLine WarningLevel s voltage.next warning
-  pub sixth : ReadsLine FaultLevel s warning.next fault
+-- each of them by its setting
+pub each_legal : (k : Settings) → list_all (λ (setting : Setting). may_hold setting (value_of k setting)) in_code_order ≡ is_legal k
+each_legal k = all_six (may_hold ReceiveId k.receive) (may_hold TransmitId k.transmit) (may_hold Speed k.speed) (may_hold Voltage k.voltage) (may_hold WarningLevel k.warning) (may_hold FaultLevel k.fault)
 
-module _ (s : List ℕ) (rx tx speed voltage warning fault : Line) (x : Six s rx tx speed voltage warning fault) where
-  abbrev k : Settings
-  k = record { receive = rx.value; transmit = tx.value; speed = speed.value; voltage = voltage.value; warning = warning.value; fault = fault.value }
+-- ---- the line of a setting among the six
 
-  abbrev step : Setting → Line → Step
-  step setting l = record { right = l.right; text = line_text setting l.value; next = l.next }
+-- how many lines go before it
+abbrev pub before_of : Setting → ℕ
+before_of ReceiveId = 0
+before_of TransmitId = 1
+before_of Speed = 2
+before_of Voltage = 3
+before_of WarningLevel = 4
+before_of FaultLevel = 5
 
-  abbrev steps : List Step
-  steps = step ReceiveId rx ∷ step TransmitId tx ∷ step Speed speed ∷ step Voltage voltage ∷ step WarningLevel warning ∷ step FaultLevel fault ∷ []
+value_legal : (setting : Setting) (k : Settings) → Parts k → may_hold setting (value_of k setting) ≡ true
+value_legal ReceiveId k p = p.receive
+value_legal TransmitId k p = p.transmit
+value_legal Speed k p = p.speed
+value_legal Voltage k p = p.voltage
+value_legal WarningLevel k p = p.warning
+value_legal FaultLevel k p = p.fault
 
-  legal : is_legal k ≡ true
-  legal =
-      parts_legal k
-      (record {
-        receive = x.first.legal;
-        transmit = x.second.legal;
-        speed = x.third.legal;
-        voltage = x.fourth.legal;
-        warning = x.fifth.legal;
-        fault = x.sixth.legal;
-      })
+with_legal : (setting : Setting) (k : Settings) (v : ℕ) → Parts k → may_hold setting v ≡ true → Parts (with_value k setting v)
+with_legal ReceiveId k v p h = record { receive = h; transmit = p.transmit; speed = p.speed; voltage = p.voltage; warning = p.warning; fault = p.fault }
+with_legal TransmitId k v p h = record { receive = p.receive; transmit = h; speed = p.speed; voltage = p.voltage; warning = p.warning; fault = p.fault }
+with_legal Speed k v p h = record { receive = p.receive; transmit = p.transmit; speed = h; voltage = p.voltage; warning = p.warning; fault = p.fault }
+with_legal Voltage k v p h = record { receive = p.receive; transmit = p.transmit; speed = p.speed; voltage = h; warning = p.warning; fault = p.fault }
+with_legal WarningLevel k v p h = record { receive = p.receive; transmit = p.transmit; speed = p.speed; voltage = p.voltage; warning = h; fault = p.fault }
+with_legal FaultLevel k v p h = record { receive = p.receive; transmit = p.transmit; speed = p.speed; voltage = p.voltage; warning = p.warning; fault = h }
 
-  follows : Follows s 0 steps
-  follows = (x.first.same, (x.second.same, (x.third.same, (x.fourth.same, (x.fifth.same, (x.sixth.same, tt))))))
+-- the lines through it: those before, and its own
+through : (setting : Setting) (k : Settings) → take (before_of setting + 1) (lines_of k) ≡ take (before_of setting) (lines_of k) ++ (line_text setting (value_of k setting) ∷ [])
+through ReceiveId k = refl
+through TransmitId k = refl
+through Speed k = refl
+through Voltage k = refl
+through WarningLevel k = refl
+through FaultLevel k = refl
 
-  finds : (m : Settings) → is_legal m ≡ true → Finds s 0 steps (lines_of m)
-  finds m l =
-      let p = legal_parts m l in (
-        (λ rest. x.first.found m.receive rest p.receive),
-        (
-          (λ rest. x.second.found m.transmit rest p.transmit),
-          (
-            (λ rest. x.third.found m.speed rest p.speed),
-            (
-              (λ rest. x.fourth.found m.voltage rest p.voltage),
-              ((λ rest. x.fifth.found m.warning rest p.warning), ((λ rest. x.sixth.found m.fault rest p.fault), tt)),
-            ),
-          ),
-        ),
-      )
+-- with another value there: those before as they were, and its own
+through_with : (setting : Setting) (k : Settings) (v : ℕ) → take (before_of setting + 1) (lines_of (with_value k setting v)) ≡ take (before_of setting) (lines_of k) ++ (line_text setting v ∷ [])
+through_with ReceiveId k v = refl
+through_with TransmitId k v = refl
+through_with Speed k v = refl
+through_with Voltage k v = refl
+through_with WarningLevel k v = refl
+through_with FaultLevel k v = refl
 
-  goes_on : (r : ℕ) → leading (rights_of steps) ≡ r → GoesOn s r
-  goes_on r e =
-      record {
-        settings = k;
-        rest = drop (after_of 0 steps) s;
-        legal = legal;
-        same = subst (λ (n : ℕ). s ≡ joined (take n (lines_of k)) ++ drop (after_of 0 steps) s) e (goes s 0 steps follows);
-        nothing = λ h. let m = leading_most (rights_of steps) in absurd (omega (arith, m, e, h));
-      }
+last_line : (ls : List (List ℕ)) (l rest : List ℕ) → concat (ls ++ (l ∷ [])) ++ rest ≡ concat ls ++ (l ++ rest)
+last_line ls l rest =
+    ap (λ (t : List ℕ). t ++ rest) (concat-append ls (l ∷ []) ∙ ap (λ (t : List ℕ). concat ls ++ t) (append-nil l))
+    ∙ append_assoc (concat ls) l rest
 
-  no_further : (r : ℕ) → leading (rights_of steps) ≡ r → r < 6 → GoesOn s (r + 1) → ⊥
-  no_further r e h g =
-      let m = most s 0 steps (lines_of g.settings) (r + 1) g.rest (finds g.settings g.legal) (omega (arith, h)) (omega (arith, h)) g.same in
-      omega (arith, m, e)
+before_at : (i : ℕ) → i < 6 → before_of (get_or in_code_order i ReceiveId) ≡ i
+before_at zero h = refl
+before_at (suc zero) h = refl
+before_at (suc (suc zero)) h = refl
+before_at (suc (suc (suc zero))) h = refl
+before_at (suc (suc (suc (suc zero)))) h = refl
+before_at (suc (suc (suc (suc (suc zero))))) h = refl
+before_at (suc (suc (suc (suc (suc (suc i)))))) h = absurd (omega (arith, h))
 
-  past_six : eqb fault.next (length s) ≡ false → GoesOn s 7 → ⊥
-  past_six f g =
-      let left = whole s 0 steps (lines_of g.settings) g.rest refl (finds g.settings g.legal) g.same ∙ g.nothing (omega arith) in
-      let none = sym (length-drop fault.next s) ∙ ap length left in
-      let within = x.sixth.within in
-      false_true (sym (eq-eqb fault.next (length s) (omega (arith, none, within))) ∙ f)
+line_concat : (setting : Setting) (k : Settings) → concat (take (before_of setting) (lines_of k)) ++ line_text setting (value_of k setting) ≡ concat (take (before_of setting + 1) (lines_of k))
+line_concat setting k =
+    ap (λ (t : List ℕ). concat (take (before_of setting) (lines_of k)) ++ t) (sym (append-nil (line_text setting (value_of k setting))))
+    ∙ sym (last_line (take (before_of setting) (lines_of k)) (line_text setting (value_of k setting)) [])
+    ∙ append-nil (concat (take (before_of setting) (lines_of k) ++ (line_text setting (value_of k setting) ∷ [])))
+    ∙ ap concat (sym (through setting k))
 
-  short_of_six : (r : ℕ) → r ≡ leading (rights_of steps ++ (eqb fault.next (length s) ∷ [])) → r < 6 → FirstWrong s (r + 1)
-  short_of_six r q h =
-      let e : leading (rights_of steps) ≡ r = leading_short (rights_of steps) (eqb fault.next (length s)) (subst (λ (n : ℕ). n < 6) q h) ∙ sym q in
-      record {
-        counted = omega arith;
-        before = subst (λ (n : ℕ). GoesOn s n) (let m : r ≡ r + 1 - 1 = omega arith in m) (goes_on r e);
-        wrong = no_further r e h;
-      }
+-- the lines through the setting at a place in the order
+pub line_after : (i : ℕ) (k : Settings) → i < 6 → concat (take i (lines_of k)) ++ line_text (get_or in_code_order i ReceiveId) (value_of k (get_or in_code_order i ReceiveId)) ≡ concat (take (i + 1) (lines_of k))
+line_after i k h =
+    let setting = get_or in_code_order i ReceiveId in
+    subst (λ (n : ℕ). concat (take n (lines_of k)) ++ line_text setting (value_of k setting) ≡ concat (take (n + 1) (lines_of k))) (before_at i h) (line_concat setting k)
 
-  six_and_more : (r : ℕ) → r ≡ leading (rights_of steps ++ (eqb fault.next (length s) ∷ [])) → 6 ≤ r → r < 7 → FirstWrong s (r + 1)
-  six_and_more r q h k =
-      let all = leading_all (rights_of steps) (eqb fault.next (length s)) (subst (λ (n : ℕ). 6 ≤ n) q h) in
-      let six : 6 ≡ r = omega (arith, h, k) in
-      decided (eqb fault.next (length s))
-      (λ t. absurd (let e = q ∙ all.1 ∙ ap (λ (b : Bool). 6 + leading (b ∷ [])) t in omega (arith, e, k)))
-      (λ t. subst (λ (n : ℕ). FirstWrong s (n + 1)) six (record { counted = omega arith; before = goes_on 6 all.0; wrong = past_six t }))
+-- ---- how far the bytes go on
 
-  pub wrong_sheet : (r : ℕ) → r ≡ leading (rx.right ∷ tx.right ∷ speed.right ∷ voltage.right ∷ warning.right ∷ fault.right ∷ eqb fault.next (length s) ∷ []) → r < 7 → FirstWrong s (r + 1)
-  wrong_sheet r q h = decided (ltb r 6) (λ t. short_of_six r q (ltb-true r 6 t)) (λ t. six_and_more r q (ltb-false r 6 t) h)
+-- the bytes up to a place are the first lines of these settings, and only what follows that place can follow such lines
+pub record Reached (s : List ℕ) (lines : ℕ) (k : Settings) (at : ℕ) : Type 0 where
+  pub parts : Parts k
+  pub within : at ≤ length s
+  pub same : s ≡ concat (take lines (lines_of k)) ++ drop at s
+  pub only : (m : Settings) (rest : List ℕ) → Parts m → s ≡ concat (take lines (lines_of m)) ++ rest → rest ≡ drop at s
 
-  pub right_sheet : (r : ℕ) → r ≡ leading (rx.right ∷ tx.right ∷ speed.right ∷ voltage.right ∷ warning.right ∷ fault.right ∷ eqb fault.next (length s) ∷ []) → 7 ≤ r → IsSheet s k
-  right_sheet r q h =
-      let all = leading_all (rights_of steps) (eqb fault.next (length s)) (let g = subst (λ (n : ℕ). 7 ≤ n) q h in omega (arith, g)) in
-      let ends : eqb fault.next (length s) ≡ true = decided (eqb fault.next (length s)) (λ t. t) (λ t. absurd (let e = q ∙ all.1 ∙ ap (λ (b : Bool). 6 + leading (b ∷ [])) t in omega (arith, e, h))) in
-      let at = after_last 0 steps all.0 ∙ eqb-true fault.next (length s) ends in
-      record {
-        legal = legal;
-        same = subst (λ (n : ℕ). s ≡ joined (take n (lines_of k)) ++ drop (after_of 0 steps) s) all.0 (goes s 0 steps follows) ∙ ap (λ (n : ℕ). sheet_text k ++ drop n s) at ∙ ap (λ (u : List ℕ). sheet_text k ++ u) (drop-length s) ∙ append-nil (sheet_text k);
-      }
+pub start : (s : List ℕ) → Reached s 0 (record { receive = 0; transmit = 0; speed = 0x00CA0250; voltage = 0; warning = 1; fault = 1 }) 0
+start s =
+    record {
+      parts = record { receive = refl; transmit = refl; speed = refl; voltage = refl; warning = refl; fault = refl };
+      within = omega arith;
+      same = refl;
+      only = λ m rest p e. sym e;
+    }
+
+-- lines through a setting's leave its text and the rest at the place
+left : (setting : Setting) {s : List ℕ} {k : Settings} {at : ℕ} → Reached s (before_of setting) k at → (m : Settings) (rest : List ℕ) → Parts m → s ≡ concat (take (before_of setting + 1) (lines_of m)) ++ rest → line_text setting (value_of m setting) ++ rest ≡ drop at s
+left setting x m rest p e =
+    x.only m (line_text setting (value_of m setting) ++ rest) p
+    (e ∙ ap (λ (ls : List (List ℕ)). concat ls ++ rest) (through setting m) ∙ last_line (take (before_of setting) (lines_of m)) (line_text setting (value_of m setting)) rest)
+
+pub further : (setting : Setting) {s : List ℕ} {k : Settings} {at : ℕ} {r : Option Line} {line : Line} → Reached s (before_of setting) k at → ReadsLine setting s at r → r ≡ Some line → Reached s (before_of setting + 1) (with_value k setting line.value) line.next
+further setting {s} {k} {at} {r} {line} x y e =
+    let l : IsLineAt setting s at line = subst (ReadsLine setting s at) e y in
+    record {
+      parts = with_legal setting k line.value x.parts l.legal;
+      within = l.within;
+      same = x.same
+          ∙ ap (λ (t : List ℕ). concat (take (before_of setting) (lines_of k)) ++ t) l.same
+          ∙ sym (last_line (take (before_of setting) (lines_of k)) (line_text setting line.value) (drop line.next s))
+          ∙ ap (λ (ls : List (List ℕ)). concat ls ++ drop line.next s) (sym (through_with setting k line.value));
+      only = λ m rest p q. (lines.apart setting (value_of m setting) line.value rest (drop line.next s) (value_legal setting m p) l.legal (left setting x m rest p q ∙ l.same)).1;
+    }
+
+abbrev number_or : Result Line WrongLine → ℕ
+number_or (Ok line) = 0
+number_or (Err wrong) = wrong.0
+
+-- so far the bytes go on as a sheet
+goes_on : (s : List ℕ) (n : ℕ) (k : Settings) (at : ℕ) → n ≤ 6 → Reached s n k at → GoesOn s n
+goes_on s n k at h x =
+    record { settings = k; rest = drop at s; legal = parts_legal k x.parts; same = x.same; nothing = λ more. absurd (omega (arith, h, more)) }
+
+before_most : (setting : Setting) → before_of setting ≤ 6
+before_most ReceiveId = omega arith
+before_most TransmitId = omega arith
+before_most Speed = omega arith
+before_most Voltage = omega arith
+before_most WarningLevel = omega arith
+before_most FaultLevel = omega arith
+
+-- the line that is not there is the first wrong one, and the answer has its number
+pub wrong_there : (setting : Setting) {s : List ℕ} {k : Settings} {at : ℕ} {r : Option Line} {wrong : WrongLine} → Reached s (before_of setting) k at → ReadsLine setting s at r → r ≡ None → ◌≡◌ {A = Result Line WrongLine} (Err wrong) (ok_or r (record { 0 = before_of setting + 1 })) → FirstWrong s wrong.0
+wrong_there setting {s} {k} {at} {r} {wrong} x y e told =
+    subst (FirstWrong s) (sym (ap number_or (told ∙ ap (λ (o : Option Line). ok_or o (record { 0 = before_of setting + 1 })) e)))
+    (record {
+      counted = omega arith;
+      before = subst (GoesOn s) (let n : before_of setting ≡ before_of setting + 1 - 1 = omega arith in n) (goes_on s (before_of setting) k at (before_most setting) x);
+      wrong = λ g. let p = legal_parts g.settings g.legal in
+          let found = lines.found setting s at r y (value_of g.settings setting) g.rest (value_legal setting g.settings p) (sym (left setting x g.settings g.rest p g.same)) in
+          none-some found.0 (sym e ∙ found.1);
+    })
+
+-- six lines, and more after them
+pub more_after : {s : List ℕ} {k : Settings} {at : ℕ} → Reached s 6 k at → at < length s → FirstWrong s 7
+more_after {s} {k} {at} x h =
+    record {
+      counted = omega arith;
+      before = goes_on s 6 k at (omega arith) x;
+      wrong = λ g. let none = sym (length-drop at s) ∙ ap length (sym (x.only g.settings g.rest (legal_parts g.settings g.legal) g.same) ∙ g.nothing (omega arith)) in
+          omega (arith, none, h);
+    }
+
+-- six lines, and nothing after them
+pub whole_sheet : {s : List ℕ} {k : Settings} {at : ℕ} → Reached s 6 k at → length s ≤ at → IsSheet s k
+whole_sheet {s} {k} {at} x h =
+    record {
+      legal = parts_legal k x.parts;
+      same = x.same ∙ ap (λ (t : List ℕ). sheet_text k ++ t) (drop_of_length-le s {i = at} h) ∙ append-nil (sheet_text k);
+    }

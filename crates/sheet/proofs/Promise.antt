@@ -9,6 +9,7 @@ use lib.Dec.{eqb, leb, lit≤, leb-suc-suc}
 use lib.ListN.{length, get_or, take, drop, length-append}
 use lib.Seq.{take_at}
 use borrow.Author.Tests.{le-ltb, leb-true}
+use Rattle.std.specs.Prelude.{Result, Ok, Err}
 use Rattle.words.proofs.Tests.{by_test, false_true, and_left, and_right}
 use Rattle.refusal.specs.declared.Refusal.{Refusal}
 use Rattle.refusal.specs.declared.Refusal.TheVariants.{WrongSheet, ShortBuffer}
@@ -19,21 +20,19 @@ use Rattle.maintenance_pages.specs.declared.setting.Setting.{Setting}
 use Rattle.maintenance_pages.specs.declared.setting.Setting.TheVariants.{ReceiveId, TransmitId, Speed, Voltage, WarningLevel, FaultLevel}
 use Rattle.maintenance_pages.specs.declared.setting.Settings.{Settings}
 use Rattle.maintenance_pages.specs.Settings.{accepted}
-use Rattle.text.specs.declared.written.Written.{Written}
-use Rattle.text.specs.declared.written.Written.TheVariants.{Text, Refused as NotWritten}
+use Rattle.std.specs.declared.result.Result.{Result}
+use Rattle.std.specs.declared.result.Result.TheVariants.{Ok, Err}
 use Rattle.text.specs.Figures.{hexadecimal, decimal, decimal_up_to}
 use Rattle.text.specs.Letters.{letters}
 use Rattle.text.specs.Put.{Put}
 use Rattle.text.specs.Written.{is_short, Fitted, told_text, refused_line}
 use Rattle.text.proofs.Figures.{lacks, lacks_append, lacks_at, decimal_length}
-use Rattle.text.proofs.Fitted.{fitted_told, text_not_refused, text_stands, refused_same}
-use Rattle.sheet.specs.declared.reading.Judged.{Judged}
-use Rattle.sheet.specs.declared.reading.Judged.TheVariants.{Sheet, Wrong}
-use Rattle.sheet.specs.declared.reading.SheetRead.{SheetRead}
-use Rattle.sheet.specs.declared.reading.SheetRead.TheVariants.{Settings as ReadSettings, Refused}
+use Rattle.text.proofs.Fitted.{fitted_told, text_stands, refused_same}
+use Rattle.sheet.specs.declared.reading.WrongLine.{WrongLine}
 use Rattle.sheet_line.specs.Lines.{line_text, may_hold}
 use Rattle.sheet_line.proofs.Promise.{comma_lacks, dot_lacks}
-use Rattle.sheet.specs.Sheet.{lines_of, joined, sheet_text, is_legal, IsSheet, Judges, Reads, WrittenBy, SheetWritten}
+use Rattle.std.specs.List.{concat}
+use Rattle.sheet.specs.Sheet.{lines_of, sheet_text, is_legal, IsSheet, Judges, Reads, WrittenBy, SheetWritten}
 use Rattle.sheet.specs.Output.{sentences, sentence_from, expected_at, expected_line, output_by, Outputs}
 use Rattle.sheet.specs.Promise.{told_read, writer_conditions, Promise}
 use Rattle.sheet.proofs.Sheets.{sheet_length}
@@ -53,78 +52,78 @@ abbrev number_or : Told Settings → ℕ
 number_or (good k) = 0
 number_or (refusal n) = n
 
-is_read : (s : List ℕ) (r : SheetRead) → Reads s r → (k : Settings) → IsSheet s k → r ≡ ReadSettings k
-is_read s r x k y = one_read s r (ReadSettings k) x y
+is_read : (s : List ℕ) (r : Result Settings Refusal) → Reads s r → (k : Settings) → IsSheet s k → r ≡ Ok k
+is_read s r x k y = one_read s r (Ok k) x y
 
-told_accepted : (s : List ℕ) (r : SheetRead) → Reads s r → (k : Settings) → told_read r ≡ good k → IsSheet s k
-told_accepted s (ReadSettings m) x k e = subst (λ (y : Settings). IsSheet s y) (ap (settings_or m) e) x
-told_accepted s (Refused why) x k e = false_true (sym (ap is_answer e))
+told_accepted : (s : List ℕ) (r : Result Settings Refusal) → Reads s r → (k : Settings) → told_read r ≡ good k → IsSheet s k
+told_accepted s (Ok m) x k e = subst (λ (y : Settings). IsSheet s y) (ap (settings_or m) e) x
+told_accepted s (Err why) x k e = false_true (sym (ap is_answer e))
 
-told_refused : (s : List ℕ) (r : SheetRead) → Reads s r → (n : ℕ) → told_read r ≡ refusal n → (n ≡ 11) × ((k : Settings) → IsSheet s k → ⊥)
-told_refused s (ReadSettings m) x n e = false_true (ap is_answer e)
-told_refused s (Refused why) x n e = (sym (ap number_or e) ∙ ap number_of x.0, x.1)
+told_refused : (s : List ℕ) (r : Result Settings Refusal) → Reads s r → (n : ℕ) → told_read r ≡ refusal n → (n ≡ 11) × ((k : Settings) → IsSheet s k → ⊥)
+told_refused s (Ok m) x n e = false_true (ap is_answer e)
+told_refused s (Err why) x n e = (sym (ap number_or e) ∙ ap number_of x.0, x.1)
 
-no_sheet : (s : List ℕ) (r : SheetRead) → Reads s r → ((k : Settings) → IsSheet s k → ⊥) → told_read r ≡ refusal 11
-no_sheet s (ReadSettings m) x none = absurd (none m x)
-no_sheet s (Refused why) x none = ap (λ (w : Refusal). told_read (Refused w)) x.0
+no_sheet : (s : List ℕ) (r : Result Settings Refusal) → Reads s r → ((k : Settings) → IsSheet s k → ⊥) → told_read r ≡ refusal 11
+no_sheet s (Ok m) x none = absurd (none m x)
+no_sheet s (Err why) x none = ap (λ (w : Refusal). told_read (Err w)) x.0
 
 -- ---- a comma or a dot
 
 sheet_lacks : (c : ℕ) → ((setting : Setting) (v : ℕ) → lacks c (line_text setting v) ≡ true) → (k : Settings) → lacks c (sheet_text k) ≡ true
 sheet_lacks c lines k =
-    lacks_append c (line_text ReceiveId k.receive) (joined (drop 1 (lines_of k))) (lines ReceiveId k.receive)
-    (lacks_append c (line_text TransmitId k.transmit) (joined (drop 2 (lines_of k))) (lines TransmitId k.transmit)
-    (lacks_append c (line_text Speed k.speed) (joined (drop 3 (lines_of k))) (lines Speed k.speed)
-    (lacks_append c (line_text Voltage k.voltage) (joined (drop 4 (lines_of k))) (lines Voltage k.voltage)
-    (lacks_append c (line_text WarningLevel k.warning) (joined (drop 5 (lines_of k))) (lines WarningLevel k.warning)
+    lacks_append c (line_text ReceiveId k.receive) (concat (drop 1 (lines_of k))) (lines ReceiveId k.receive)
+    (lacks_append c (line_text TransmitId k.transmit) (concat (drop 2 (lines_of k))) (lines TransmitId k.transmit)
+    (lacks_append c (line_text Speed k.speed) (concat (drop 3 (lines_of k))) (lines Speed k.speed)
+    (lacks_append c (line_text Voltage k.voltage) (concat (drop 4 (lines_of k))) (lines Voltage k.voltage)
+    (lacks_append c (line_text WarningLevel k.warning) (concat (drop 5 (lines_of k))) (lines WarningLevel k.warning)
     (lacks_append c (line_text FaultLevel k.fault) [] (lines FaultLevel k.fault) refl)))))
 
 none_there : {X : Type 0} (c : ℕ) → ((setting : Setting) (v : ℕ) → lacks c (line_text setting v) ≡ true) → (s : List ℕ) (k : Settings) (i : ℕ) → 1 ≤ c → IsSheet s k → get_or s i 0 ≡ c → X
 none_there c lines s k i one x e = lacks_at c (sheet_text k) (sheet_lacks c lines k) i one (ap (λ (t : List ℕ). get_or t i 0) (sym x.same) ∙ e)
 
-sign_refused : (s : List ℕ) (r : SheetRead) → Reads s r → (i : ℕ) → (get_or s i 0 ≡ 44) ⊎ (get_or s i 0 ≡ 46) → told_read r ≡ refusal 11
+sign_refused : (s : List ℕ) (r : Result Settings Refusal) → Reads s r → (i : ℕ) → (get_or s i 0 ≡ 44) ⊎ (get_or s i 0 ≡ 46) → told_read r ≡ refusal 11
 sign_refused s r x i (inl e) = no_sheet s r x (λ k y. none_there 44 comma_lacks s k i (lit≤ tt) y e)
 sign_refused s r x i (inr e) = no_sheet s r x (λ k y. none_there 46 dot_lacks s k i (lit≤ tt) y e)
 
 -- ---- writing
 
-told_by_lem : (b : Bool) (k : Settings) (held : List ℕ) (r : Written) (after : List ℕ) → WrittenBy b k held r after → told_text r after ≡ pick ((11 when not b) ∷ (12 when is_short (sheet_text k) (length held)) ∷ []) (sheet_text k)
+told_by_lem : (b : Bool) (k : Settings) (held : List ℕ) (r : Result ℕ Refusal) (after : List ℕ) → WrittenBy b k held r after → told_text r after ≡ pick ((11 when not b) ∷ (12 when is_short (sheet_text k) (length held)) ∷ []) (sheet_text k)
 told_by_lem true k held r after x = fitted_told (sheet_text k) held r after x
-told_by_lem false k held r after x = ap (λ (y : Written). told_text y after) x.answered
+told_by_lem false k held r after x = ap (λ (y : Result ℕ Refusal). told_text y after) x.answered
 
-same_by : (b : Bool) (k : Settings) (held after : List ℕ) (why : Refusal) → WrittenBy b k held (NotWritten why) after → after ≡ held
+same_by : (b : Bool) (k : Settings) (held after : List ℕ) (why : Refusal) → WrittenBy b k held (Err why) after → after ≡ held
 same_by true k held after why x = refused_same (sheet_text k) held after why x
 same_by false k held after why x = x.holds
 
-fitted_by : (b : Bool) (k : Settings) (held after : List ℕ) (n : ℕ) → WrittenBy b k held (Text n) after → (b ≡ true) × Fitted (sheet_text k) held (Text n) after
+fitted_by : (b : Bool) (k : Settings) (held after : List ℕ) (n : ℕ) → WrittenBy b k held (Ok n) after → (b ≡ true) × Fitted (sheet_text k) held (Ok n) after
 fitted_by true k held after n x = (refl, x)
-fitted_by false k held after n x = text_not_refused n WrongSheet x.answered
+fitted_by false k held after n x = let e = x.answered in absurd (cc)
 
-written_fitted : (k : Settings) (held after : List ℕ) (n : ℕ) → SheetWritten k held (Text n) after → (is_legal k ≡ true) × Fitted (sheet_text k) held (Text n) after
+written_fitted : (k : Settings) (held after : List ℕ) (n : ℕ) → SheetWritten k held (Ok n) after → (is_legal k ≡ true) × Fitted (sheet_text k) held (Ok n) after
 written_fitted k held after n x = fitted_by (is_legal k) k held after n x
 
-one_by : (b : Bool) (k : Settings) (held : List ℕ) (r r' : Written) (after after' : List ℕ) → WrittenBy b k held r after → WrittenBy b k held r' after' → (r ≡ r') × (after ≡ after')
+one_by : (b : Bool) (k : Settings) (held : List ℕ) (r r' : Result ℕ Refusal) (after after' : List ℕ) → WrittenBy b k held r after → WrittenBy b k held r' after' → (r ≡ r') × (after ≡ after')
 one_by true k held r r' after after' x y = (x.answered ∙ sym y.answered, x.holds ∙ sym y.holds)
 one_by false k held r r' after after' x y = (x.answered ∙ sym y.answered, x.holds ∙ sym y.holds)
 
 -- legal settings in a buffer that is long enough
-room_enough : (k : Settings) → is_legal k ≡ true → (held : List ℕ) (r : Written) (after : List ℕ) → length (sheet_text k) ≤ length held → SheetWritten k held r after → r ≡ Text (length (sheet_text k))
+room_enough : (k : Settings) → is_legal k ≡ true → (held : List ℕ) (r : Result ℕ Refusal) (after : List ℕ) → length (sheet_text k) ≤ length held → SheetWritten k held r after → r ≡ Ok (length (sheet_text k))
 room_enough k l held r after h x =
-    (subst (λ (b : Bool). WrittenBy b k held r after) l x).answered ∙ ap (λ (b : Bool). cond b (NotWritten ShortBuffer) (Text (length (sheet_text k)))) (le-ltb (length held) (length (sheet_text k)) h)
+    (subst (λ (b : Bool). WrittenBy b k held r after) l x).answered ∙ ap (λ (b : Bool). cond b (Err ShortBuffer) (Ok (length (sheet_text k)))) (le-ltb (length held) (length (sheet_text k)) h)
 
-stands : (k : Settings) (held after : List ℕ) (n : ℕ) → SheetWritten k held (Text n) after → (n ≡ length (sheet_text k)) × (after ≡ sheet_text k ++ drop n held)
+stands : (k : Settings) (held after : List ℕ) (n : ℕ) → SheetWritten k held (Ok n) after → (n ≡ length (sheet_text k)) × (after ≡ sheet_text k ++ drop n held)
 stands k held after n x = text_stands (sheet_text k) held after n (written_fitted k held after n x).1
 
-back : (k : Settings) (held : List ℕ) (n : ℕ) (after : List ℕ) → SheetWritten k held (Text n) after → (r : SheetRead) → Reads (take n after) r → told_read r ≡ good k
+back : (k : Settings) (held : List ℕ) (n : ℕ) (after : List ℕ) → SheetWritten k held (Ok n) after → (r : Result Settings Refusal) → Reads (take n after) r → told_read r ≡ good k
 back k held n after x r y =
     let both = stands k held after n x in
     ap told_read (is_read (take n after) r y k (record { legal = (written_fitted k held after n x).0; same = ap (take n) both.1 ∙ take_at (sheet_text k) (drop n held) n (sym both.0) }))
 
-back_again : (s : List ℕ) (k : Settings) → IsSheet s k → (held : List ℕ) (r : Written) (after : List ℕ) → length s ≤ length held → SheetWritten k held r after → (r ≡ Text (length s)) × (after ≡ s ++ drop (length s) held)
+back_again : (s : List ℕ) (k : Settings) → IsSheet s k → (held : List ℕ) (r : Result ℕ Refusal) (after : List ℕ) → length s ≤ length held → SheetWritten k held r after → (r ≡ Ok (length s)) × (after ≡ s ++ drop (length s) held)
 back_again s k y held r after h x =
     let long = ap length y.same in
-    let told = room_enough k y.legal held r after (omega (arith, h, long)) x ∙ ap Text (sym long) in
-    (told, (stands k held after (length s) (subst (λ (q : Written). SheetWritten k held q after) told x)).1 ∙ ap (λ (t : List ℕ). t ++ drop (length s) held) (sym y.same))
+    let told = room_enough k y.legal held r after (omega (arith, h, long)) x ∙ ap Ok (sym long) in
+    (told, (stands k held after (length s) (subst (λ (q : Result ℕ Refusal). SheetWritten k held q after) told x)).1 ∙ ap (λ (t : List ℕ). t ++ drop (length s) held) (sym y.same))
 
 -- ---- the longest sheet
 
@@ -154,9 +153,10 @@ sentence_length n (t ∷ ts) line h =
 expected_length : (line : ℕ) → length (expected_at line) ≤ 130
 expected_length line = sentence_length 1 sentences line refl
 
-output_length : (s : List ℕ) (j : Judged) → Judges s j → length (output_by j) ≤ 200
-output_length s (Sheet k) x = let l = sheet_length k x.legal in omega (arith, l)
-output_length s (Wrong n) x =
+output_length : (s : List ℕ) (j : Result Settings WrongLine) → Judges s j → length (output_by j) ≤ 200
+output_length s (Ok k) x = let l = sheet_length k x.legal in omega (arith, l)
+output_length s (Err line) x =
+    let n = line.0 in
     let r = letters "refused " ++ decimal (number_of WrongSheet) in
     let l : List ℕ = letters "line " ++ decimal n in
     let first = length-append (letters "refused ") (decimal (number_of WrongSheet)) in
@@ -173,7 +173,7 @@ output_length s (Wrong n) x =
 
 one_output : (s before : List ℕ) (n n' : ℕ) (after after' : List ℕ) → Outputs s before n after → Outputs s before n' after' → (n ≡ n') × (after ≡ after')
 one_output s before n n' after after' x y =
-    let p = subst (λ (j : Judged). Put before 0 (output_by j) n after) (one_judged s x.judged y.judged x.judges y.judges) x.put in
+    let p = subst (λ (j : Result Settings WrongLine). Put before 0 (output_by j) n after) (one_judged s x.judged y.judged x.judges y.judges) x.put in
     (p.goes_on ∙ sym y.put.goes_on, p.holds ∙ sym y.put.holds)
 
 pub promise : Promise
@@ -185,8 +185,8 @@ promise =
       comma_or_dot = sign_refused;
       writes = λ k held r after x. record {
         exactly = given_exactly (told_text r after) (writer_conditions k (length held)) (sheet_text k) (told_by_lem (is_legal k) k held r after x);
-        same = λ why q. same_by (is_legal k) k held after why (subst (λ (y : Written). SheetWritten k held y after) q x);
-        text = λ n q. stands k held after n (subst (λ (y : Written). SheetWritten k held y after) q x);
+        same = λ why q. same_by (is_legal k) k held after why (subst (λ (y : Result ℕ Refusal). SheetWritten k held y after) q x);
+        text = λ n q. stands k held after n (subst (λ (y : Result ℕ Refusal). SheetWritten k held y after) q x);
       };
       reads_back = back;
       writes_back = back_again;

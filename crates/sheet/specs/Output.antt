@@ -1,13 +1,13 @@
 -- What the program writes: the sheet; or "`refused`, a space, the number in decimal" and a line that says which line is wrong and what was expected there.
-use Rattle.std.specs.Prelude.{ℕ, suc, cond, List, [], ◌∷◌, ◌++◌, eqb}
+use Rattle.std.specs.Prelude.{ℕ, suc, cond, List, [], ◌∷◌, ◌++◌, eqb, Result, Ok, Err}
 use Prim.Native.String.{String}
 use Rattle.refusal.specs.declared.Refusal.TheVariants.{WrongSheet}
 use Rattle.text.specs.Figures.{decimal}
 use Rattle.text.specs.Letters.{letters}
 use Rattle.text.specs.Put.{Put}
 use Rattle.text.specs.Written.{refused_line}
-use Rattle.sheet.specs.declared.reading.Judged.{Judged}
-use Rattle.sheet.specs.declared.reading.Judged.TheVariants.{Sheet, Wrong}
+use Rattle.maintenance_pages.specs.declared.setting.Settings.{Settings}
+use Rattle.sheet.specs.declared.reading.WrongLine.{WrongLine}
 use Rattle.sheet.specs.Sheet.{sheet_text, Judges}
 
 -- what was expected at a line with a value
@@ -37,12 +37,12 @@ expected_at line = sentence_from 1 sentences line
 abbrev pub expected_line : ℕ → List ℕ
 expected_line line = letters "line " ++ decimal line ++ letters ": expected " ++ expected_at line ++ (10 ∷ [])
 
-abbrev pub output_by : Judged → List ℕ
-output_by (Sheet k) = sheet_text k
-output_by (Wrong line) = refused_line WrongSheet ++ expected_line line
+abbrev pub output_by : Result Settings WrongLine → List ℕ
+output_by (Ok k) = sheet_text k
+output_by (Err line) = refused_line WrongSheet ++ expected_line line.0
 
 -- what was judged of the bytes, and its text in a buffer
 pub record Outputs (s before : List ℕ) (next : ℕ) (after : List ℕ) : Type 0 where
-  pub judged : Judged
+  pub judged : Result Settings WrongLine
   pub judges : Judges s judged
   pub put : Put before 0 (output_by judged) next after

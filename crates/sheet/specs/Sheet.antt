@@ -1,14 +1,12 @@
 -- A sheet: six lines, "nothing after". Which bytes are one, at which line others go wrong, and what reading and writing answer.
-use Rattle.std.specs.Prelude.{ℕ, suc, ◌-◌, ◌≤◌, ◌<◌, ◌≡◌, Bool, true, false, ◌&&◌, List, [], ◌∷◌, ◌++◌, take}
+use Rattle.std.specs.Prelude.{ℕ, ◌-◌, ◌≤◌, ◌<◌, ◌≡◌, Bool, true, false, ◌&&◌, List, [], ◌∷◌, ◌++◌, take, Result, Ok, Err}
+use Rattle.std.specs.List.{concat}
+use Rattle.refusal.specs.declared.Refusal.{Refusal}
 use Rattle.refusal.specs.declared.Refusal.TheVariants.{WrongSheet}
 use Rattle.maintenance_pages.specs.declared.setting.Setting.TheVariants.{ReceiveId, TransmitId, Speed, Voltage, WarningLevel, FaultLevel}
 use Rattle.maintenance_pages.specs.declared.setting.Settings.{Settings}
-use Rattle.text.specs.declared.written.Written.{Written}
 use Rattle.text.specs.Written.{Fitted, NotWritten}
-use Rattle.sheet.specs.declared.reading.Judged.{Judged}
-use Rattle.sheet.specs.declared.reading.Judged.TheVariants.{Sheet, Wrong}
-use Rattle.sheet.specs.declared.reading.SheetRead.{SheetRead}
-use Rattle.sheet.specs.declared.reading.SheetRead.TheVariants.{Settings as ReadSettings, Refused}
+use Rattle.sheet.specs.declared.reading.WrongLine.{WrongLine}
 use Rattle.sheet_line.specs.Lines.{line_text, may_hold}
 
 -- ---- the text of settings
@@ -24,12 +22,8 @@ lines_of k =
     ∷ []
 
 -- lines one after another
-abbrev pub joined : List (List ℕ) → List ℕ
-joined [] = []
-joined (l ∷ ls) = l ++ joined ls
-
 abbrev pub sheet_text : Settings → List ℕ
-sheet_text k = joined (lines_of k)
+sheet_text k = concat (lines_of k)
 
 -- the settings that a sheet may hold
 abbrev pub is_legal : Settings → Bool
@@ -53,7 +47,7 @@ pub record GoesOn (s : List ℕ) (lines : ℕ) : Type 0 where
   pub settings : Settings
   pub rest : List ℕ
   pub legal : is_legal settings ≡ true
-  pub same : s ≡ joined (take lines (lines_of settings)) ++ rest
+  pub same : s ≡ concat (take lines (lines_of settings)) ++ rest
   pub nothing : 6 < lines → rest ≡ []
 
 -- the first line, counted from 1, at which no sheet goes on so
@@ -64,27 +58,19 @@ pub record FirstWrong (s : List ℕ) (line : ℕ) : Type 0 where
 
 -- ---- the answers
 
-abbrev pub Judges : List ℕ → Judged → Type 0
-Judges s (Sheet k) = IsSheet s k
-Judges s (Wrong line) = FirstWrong s line
+abbrev pub Judges : List ℕ → Result Settings WrongLine → Type 0
+Judges s (Ok k) = IsSheet s k
+Judges s (Err line) = FirstWrong s line.0
 
 -- "11, order sheet wrong", exactly where the bytes are no sheet
-abbrev pub Reads : List ℕ → SheetRead → Type 0
-Reads s (ReadSettings k) = IsSheet s k
-Reads s (Refused why) = (why ≡ WrongSheet) × ((k : Settings) → IsSheet s k → ⊥)
+abbrev pub Reads : List ℕ → Result Settings Refusal → Type 0
+Reads s (Ok k) = IsSheet s k
+Reads s (Err why) = (why ≡ WrongSheet) × ((k : Settings) → IsSheet s k → ⊥)
 
 -- "11 for values no sheet may hold, then 12; bytes after the text are unchanged"
-abbrev pub WrittenBy : Bool → Settings → List ℕ → Written → List ℕ → Type 0
+abbrev pub WrittenBy : Bool → Settings → List ℕ → Result ℕ Refusal → List ℕ → Type 0
 WrittenBy true k held answer after = Fitted (sheet_text k) held answer after
 WrittenBy false k held answer after = NotWritten WrongSheet held answer after
 
-abbrev pub SheetWritten : Settings → List ℕ → Written → List ℕ → Type 0
+abbrev pub SheetWritten : Settings → List ℕ → Result ℕ Refusal → List ℕ → Type 0
 SheetWritten k held answer after = WrittenBy (is_legal k) k held answer after
-
--- ---- how far the lines are right
-
--- how many of a row hold before the first that does not
-abbrev pub leading : List Bool → ℕ
-leading [] = 0
-leading (true ∷ bs) = suc (leading bs)
-leading (false ∷ bs) = 0

@@ -1,80 +1,30 @@
 // A sheet read: the six settings, or the first line that is wrong.
-ghost use Rattle.std.specs.Prelude.{◌≡◌, [], ◌∷◌};
-ghost use Rattle.sheet.specs.Sheet.{leading, Judges, Reads};
+ghost use Rattle.sheet.specs.Sheet.{Judges, Reads};
 
 use maintenance_pages::setting::{Setting, Settings};
 use refusal::Refusal;
 use sheet_line::reading::read_line;
 
-// The settings of a sheet, or the first line that is wrong, counted from 1.
-#[derive(Clone, Copy)]
-pub enum Judged {
-    Sheet(Settings),
-    Wrong(u8),
-}
-
-// The settings of a sheet, or why the bytes are none.
-#[derive(Clone, Copy)]
-pub enum SheetRead {
-    Settings(Settings),
-    Refused(Refusal),
-}
-
-// How many of these hold before the first that does not.
-fn leading_of(a: bool, b: bool, c: bool, d: bool, e: bool, f: bool, g: bool) -> u8
-    ensures { result ≡ leading (a ∷ b ∷ c ∷ d ∷ e ∷ f ∷ g ∷ []) }
-{
-    if !a {
-        return 0;
-    }
-    if !b {
-        return 1;
-    }
-    if !c {
-        return 2;
-    }
-    if !d {
-        return 3;
-    }
-    if !e {
-        return 4;
-    }
-    if !f {
-        return 5;
-    }
-    if !g {
-        return 6;
-    }
-    7
-}
+// The first line that is wrong, counted from 1; 7 is what stands after the sixth.
+#[derive(Clone, Copy, PartialEq, Eq, Debug)]
+pub struct WrongLine(pub u8);
 
 // The settings of a sheet, or its first wrong line. Six lines, and nothing after.
-pub fn judge(s: &[u8]) -> Judged
+pub fn judge(s: &[u8]) -> Result<Settings, WrongLine>
     ensures { Judges s.now result }
 {
-    let rx = read_line(s, 0, Setting::ReceiveId);
-    let tx = read_line(s, rx.next, Setting::TransmitId);
-    let speed = read_line(s, tx.next, Setting::Speed);
-    let voltage = read_line(s, speed.next, Setting::Voltage);
-    let warning = read_line(s, voltage.next, Setting::WarningLevel);
-    let fault = read_line(s, warning.next, Setting::FaultLevel);
-    let ends = fault.next == s.len();
-    let right = leading_of(
-        rx.right,
-        tx.right,
-        speed.right,
-        voltage.right,
-        warning.right,
-        fault.right,
-        ends,
-    );
-    let wrong = right < 7;
-    if wrong {
-        return Judged::Wrong(right + 1);
+    let receive = read_line(s, 0, Setting::ReceiveId).ok_or(WrongLine(1))?;
+    let transmit = read_line(s, receive.next, Setting::TransmitId).ok_or(WrongLine(2))?;
+    let speed = read_line(s, transmit.next, Setting::Speed).ok_or(WrongLine(3))?;
+    let voltage = read_line(s, speed.next, Setting::Voltage).ok_or(WrongLine(4))?;
+    let warning = read_line(s, voltage.next, Setting::WarningLevel).ok_or(WrongLine(5))?;
+    let fault = read_line(s, warning.next, Setting::FaultLevel).ok_or(WrongLine(6))?;
+    if fault.next < s.len() {
+        return Err(WrongLine(7));
     }
-    Judged::Sheet(Settings {
-        receive: rx.value,
-        transmit: tx.value,
+    Ok(Settings {
+        receive: receive.value,
+        transmit: transmit.value,
         speed: speed.value,
         voltage: voltage.value,
         warning: warning.value,
@@ -83,12 +33,8 @@ pub fn judge(s: &[u8]) -> Judged
 }
 
 // A sheet's settings, or 11.
-pub fn read(s: &[u8]) -> SheetRead
+pub fn read(s: &[u8]) -> Result<Settings, Refusal>
     ensures { Reads s.now result }
 {
-    let judged = judge(s);
-    match judged {
-        Judged::Sheet(k) => SheetRead::Settings(k),
-        Judged::Wrong(_) => SheetRead::Refused(Refusal::WrongSheet),
-    }
+    judge(s).map_err(|_| Refusal::WrongSheet)
 }

@@ -1,79 +1,147 @@
 -- The value of a line is found again from its figures. Assumes nothing.
-use Prim.Native.Nat.{ℕ, suc, ◌+◌, ◌*◌, ◌≤◌, ◌<◌}
-use native.Mathlib.Nat.{le_refl}
+use Prim.Native.Nat.{ℕ, zero, suc, ◌+◌, ◌/◌, ◌%◌, ◌^◌, ◌≤◌, ◌<◌}
+use native.Mathlib.Nat.{pow-suc}
 use native.Mathlib.Omega.{arith}
 use mathlib.Core.Path.{◌≡◌, refl, sym, ap, subst, ◌∙◌}
-use mathlib.Core.Bool.{Bool, true, false, cond, ◌||◌}
+use mathlib.Core.Bool.{true, false}
 use mathlib.Core.List.{List, [], ◌∷◌, ◌++◌, append_assoc}
 use mathlib.Core.Logic.{◌↔◌, inl, inr}
-use lib.Dec.{eqb, leb, lit≤, lit<}
-use lib.ListN.{length, get_or, drop, drop_of_length-le}
-use lib.Seq.{drop-cons}
-use borrow.Author.Tests.{ne_eqb, lt-leb}
-use Rattle.words.proofs.Tests.{at_most, equal, both, either}
+use lib.Dec.{ltb}
+use lib.ListN.{length, get_or, drop, take, length-append}
+use lib.Seq.{take_at}
+use borrow.Author.Tests.{ltb-true, lt-ltb, ne_eqb}
+use Rattle.std.specs.Prelude.{Option, Some, None, Result, Ok, OkIff, ◌==◌}
+use Rattle.std.specs.Option.{option_map}
+use Rattle.std.specs.Result.{result_ok}
+use Rattle.std.specs.Char.{digit_value}
+use Rattle.std.specs.Str.{IsUtf8}
+use Rattle.std.specs.List.{position, position_or_len}
+use Rattle.std.specs.Str.Parse.{AllDigits, IsNumeral, digits_value, without_leading_plus, ParsesUnsigned}
+use Rattle.std.proofs.lemmas.Bool.Decides.{nat_tests}
+use Rattle.std.proofs.lemmas.Option.{none-some, same_Some}
+use Rattle.std.proofs.lemmas.Result.{Ok-from_Ok_iff}
+use Rattle.std.proofs.lemmas.Str.{IsUtf8-from_ascii}
+use Rattle.std.proofs.lemmas.Int.Digits.{digits_push, digits_value_push}
+use Rattle.words.proofs.Tests.{at_most, equal, both, either, decided}
 use Rattle.maintenance_pages.specs.declared.setting.Setting.{Setting}
 use Rattle.maintenance_pages.specs.declared.setting.Setting.TheVariants.{ReceiveId, TransmitId, Speed, Voltage, WarningLevel, FaultLevel}
 use Rattle.maintenance_pages.specs.Settings.{speed_number}
 use Rattle.maintenance_pages.proofs.Promise.{promise as maintenance}
-use Rattle.text.specs.Figures.{hexadecimal, decimal}
-use Rattle.text.specs.Promise.{figure_value, number_from}
-use Rattle.text.proofs.Figures.{lacks, lacks_at, hexadecimal_lacks, decimal_lacks}
-use Rattle.text.proofs.Promise.{promise as text}
-use Rattle.sheet_line.specs.Lines.{line_text, may_hold}
+use Rattle.text.specs.Figures.{figure, hexadecimal, decimal_up_to}
+use Rattle.text.proofs.Figures.{hexadecimal_length}
+use Rattle.sheet_line.specs.Lines.{figures_of, line_text, may_hold}
 use Rattle.sheet_line.specs.Promise.{MayHold}
-use Rattle.sheet_line.specs.Number.{is_hexadecimal, base, width_of, value_for, Counts}
+use Rattle.sheet_line.specs.Number.{base_of, width_of, value_for, Counts}
 
--- ---- figure by figure
+-- ---- figures as digits
 
--- the number of the figures up to a line feed, after figures with that number, as the loop counts it
-unfoldable pub scan : ℕ → ℕ → List ℕ → ℕ
-scan b n [] = n
-scan b n (c ∷ cs) = cond (eqb c 10 || leb 2147483648 n) n (scan b (n * b + figure_value c) cs)
+-- a digit is one of 0 to 9 or a letter
+pub digit_within : (c : ℕ) → digit_value c < 36 → (48 ≤ c) × (c < 123)
+digit_within c h = grind (arith, nat_tests)
 
-scan_none : (b n : ℕ) → scan b n [] ≡ n
-unfolding scan
-scan_none b n = refl
+digit_figure : (d : ℕ) → d < 16 → digit_value (figure d) ≡ d
+digit_figure d h = grind (arith, nat_tests)
 
-scan_ends : (b n c : ℕ) (cs : List ℕ) → (eqb c 10 || leb 2147483648 n) ≡ true → scan b n (c ∷ cs) ≡ n
-unfolding scan
-scan_ends b n c cs e = ap (λ (t : Bool). cond t n (scan b (n * b + figure_value c) cs)) e
+digit_decimal : (d : ℕ) → d < 10 → digit_value (48 + d) ≡ d
+digit_decimal d h = grind (arith, nat_tests)
 
-scan_more : (b n c : ℕ) (cs : List ℕ) → (eqb c 10 || leb 2147483648 n) ≡ false → scan b n (c ∷ cs) ≡ scan b (n * b + figure_value c) cs
-unfolding scan
-scan_more b n c cs e = ap (λ (t : Bool). cond t n (scan b (n * b + figure_value c) cs)) e
+hexadecimal_digits : (w n : ℕ) → AllDigits 16 (hexadecimal w n)
+unfolding hexadecimal
+hexadecimal_digits zero n = tt
+hexadecimal_digits (suc w) n =
+    digits_push 16 (hexadecimal w (n / 16)) (figure (n % 16)) (hexadecimal_digits w (n / 16)) (rw (digit_figure (n % 16) (omega arith)) (omega arith))
 
-pub past_end : (b n i : ℕ) (s : List ℕ) → length s ≤ i → scan b n (drop i s) ≡ n
-past_end b n i s h = ap (scan b n) (drop_of_length-le s h) ∙ scan_none b n
+hexadecimal_value : (w n : ℕ) → n < 16 ^ w → digits_value 16 (hexadecimal w n) ≡ n
+unfolding hexadecimal
+hexadecimal_value zero n h = let one : n < 1 = h in omega (arith, one)
+hexadecimal_value (suc w) n h =
+    digits_value_push 16 (hexadecimal w (n / 16)) (figure (n % 16))
+    ∙ (let rest = hexadecimal_value w (n / 16) (omega (arith, h, pow-suc 16 w)) in let last = digit_figure (n % 16) (omega arith) in omega (arith, rest, last))
 
-pub at_end : (b n i : ℕ) (s : List ℕ) → i < length s → (eqb (get_or s i 0) 10 || leb 2147483648 n) ≡ true → scan b n (drop i s) ≡ n
-at_end b n i s h e = ap (scan b n) (drop-cons s i 0 h) ∙ scan_ends b n (get_or s i 0) (drop (suc i) s) e
+decimal_digits : (k n : ℕ) → IsNumeral 10 (decimal_up_to k n)
+unfolding decimal_up_to
+decimal_digits zero n = (omega arith, (rw (digit_decimal (n % 10) (omega arith)) (omega arith), tt))
+decimal_digits (suc k) n =
+    decided (ltb n 10)
+    (λ t. rw t (omega arith, (rw (digit_decimal (n % 10) (omega arith)) (omega arith), tt)))
+    (λ t. rw t (
+      let l = length-append (decimal_up_to k (n / 10)) ((48 + n % 10) ∷ []) in omega (arith, l),
+      digits_push 10 (decimal_up_to k (n / 10)) (48 + n % 10) (decimal_digits k (n / 10)).1 (rw (digit_decimal (n % 10) (omega arith)) (omega arith)),
+    ))
 
-pub one_on : (b n i : ℕ) (s : List ℕ) → i < length s → (eqb (get_or s i 0) 10 || leb 2147483648 n) ≡ false → scan b n (drop i s) ≡ scan b (n * b + figure_value (get_or s i 0)) (drop (i + 1) s)
-one_on b n i s h e =
-    ap (scan b n) (drop-cons s i 0 h)
-    ∙ scan_more b n (get_or s i 0) (drop (suc i) s) e
-    ∙ ap (λ (k : ℕ). scan b (n * b + figure_value (get_or s i 0)) (drop k s)) (let q : suc i ≡ i + 1 = omega arith in q)
+decimal_value : (k n : ℕ) → n < 10 ^ suc k → digits_value 10 (decimal_up_to k n) ≡ n
+unfolding decimal_up_to
+decimal_value zero n h = let few : n < 10 = h in let last = digit_decimal (n % 10) (omega arith) in omega (arith, few, last)
+decimal_value (suc k) n h =
+    decided (ltb n 10)
+    (λ t. rw t (let few = ltb-true n 10 t in let last = digit_decimal (n % 10) (omega arith) in omega (arith, few, last)))
+    (λ t. rw t
+    (digits_value_push 10 (decimal_up_to k (n / 10)) (48 + n % 10)
+    ∙ (let rest = decimal_value k (n / 10) (omega (arith, h, pow-suc 10 (suc k))) in let last = digit_decimal (n % 10) (omega arith) in omega (arith, rest, last))))
 
--- ---- a row of figures
+-- ---- digits, a line feed, and anything after
 
-larger : (h : Bool) (n v : ℕ) → n ≤ n * base h + v
-larger true n v = omega arith
-larger false n v = omega arith
+-- the bytes are digits of a number of 32 bits, a line feed, and anything after
+pub record Begins (base : ℕ) (s figures rest : List ℕ) : Type 0 where
+  pub within : base ≤ 36
+  pub digits : IsNumeral base figures
+  pub small : digits_value base figures < 2 ^ 32
+  pub same : s ≡ figures ++ (10 ∷ rest)
 
-grows : (h : Bool) (n : ℕ) (figs : List ℕ) → n ≤ number_from (base h) n figs
-grows h n [] = le_refl n
-grows h n (c ∷ cs) = let one = larger h n (figure_value c) in let rest = grows h (n * base h + figure_value c) cs in omega (arith, one, rest)
+no_feed : (c : ℕ) → digit_value c < 36 → (c == 10) ≡ false
+no_feed c h = let b = digit_within c h in grind (arith, nat_tests)
 
-scan_figures : (h : Bool) (n : ℕ) (figs rest : List ℕ) → ((i : ℕ) → get_or figs i 0 ≡ 10 → ⊥) → number_from (base h) n figs < 2147483648 → scan (base h) n (figs ++ (10 ∷ rest)) ≡ number_from (base h) n figs
-scan_figures h n [] rest none small = scan_ends (base h) n 10 rest refl
-scan_figures h n (c ∷ cs) rest none small =
-    let below : n < 2147483648 = (let g = grows h n (c ∷ cs) in omega (arith, g, small)) in
-    scan_more (base h) n c (cs ++ (10 ∷ rest)) (rw (ne_eqb c 10 (none 0), lt-leb 2147483648 n below) refl)
-    ∙ scan_figures h (n * base h + figure_value c) cs rest (λ i. none (suc i)) small
+-- the line feed is the first
+feed_place : (base : ℕ) (figures rest : List ℕ) → base ≤ 36 → AllDigits base figures → position_or_len (λ (b : ℕ). b == 10) (figures ++ (10 ∷ rest)) ≡ length figures
+feed_place base [] rest h d = refl
+feed_place base (c ∷ cs) rest h d = rw (no_feed c (let first = d.0 in omega (arith, first, h))) (let more = feed_place base cs rest h d.1 in omega (arith, more))
 
-pub scanned : (h : Bool) (t : List ℕ) (n : ℕ) → n ≡ scan (base h) 0 t → Counts (base h) t n
-scanned h t n q =
-    record { counted = λ figs rest none e small. q ∙ ap (scan (base h) 0) e ∙ scan_figures h 0 figs rest none small }
+digits_ascii : (base : ℕ) (figures : List ℕ) → base ≤ 36 → AllDigits base figures → (i : ℕ) → get_or figures i 0 < 128
+digits_ascii base [] h d i = omega arith
+digits_ascii base (c ∷ cs) h d zero = let first = d.0 in let b = digit_within c (omega (arith, first, h)) in omega (arith, b)
+digits_ascii base (c ∷ cs) h d (suc i) = digits_ascii base cs h d.1 i
+
+module _ (base : ℕ) (s figures rest : List ℕ) (x : Begins base s figures rest) where
+  feed_at : position_or_len (λ (b : ℕ). b == 10) s ≡ length figures
+  feed_at = ap (position_or_len (λ (b : ℕ). b == 10)) x.same ∙ feed_place base figures rest x.within x.digits.1
+
+  pub feed_found : position (λ (b : ℕ). b == 10) s ≡ Some (length figures)
+  feed_found = let at = feed_at in let l = ap length x.same ∙ length-append figures (10 ∷ rest) in rw (at, lt-ltb (length figures) (length s) (omega (arith, l))) refl
+
+  pub figures_before : (end : ℕ) → position (λ (b : ℕ). b == 10) s ≡ Some end → take end s ≡ figures
+  figures_before end e = ap (λ (t : List ℕ). take end t) x.same ∙ take_at figures (10 ∷ rest) end (sym (same_Some end (length figures) (sym e ∙ feed_found)))
+
+  pub figures_text : IsUtf8 figures
+  figures_text = IsUtf8-from_ascii figures (digits_ascii base figures x.within x.digits.1)
+
+  no_plus : (figures : List ℕ) → IsNumeral base figures → without_leading_plus figures ≡ figures
+  no_plus [] d = absurd (let some = d.0 in omega (arith, some))
+  no_plus (c ∷ cs) d = let first = d.1.0 in let within = x.within in let b = digit_within c (omega (arith, first, within)) in rw (ne_eqb c 43 (λ e. omega (arith, b, e))) refl
+
+  pub figures_parsed : {E : Type 0} (r : Result ℕ E) → ParsesUnsigned 32 base figures r → r ≡ Ok (digits_value base figures)
+  figures_parsed r p =
+      Ok-from_Ok_iff r (IsNumeral base figures × (digits_value base figures < 2 ^ 32)) (digits_value base figures)
+      (subst (λ (t : List ℕ). OkIff r (IsNumeral base t × (digits_value base t < 2 ^ 32)) (digits_value base t)) (no_plus figures x.digits) p)
+      (x.digits, x.small)
+
+-- no line feed, no text before it, or the number that was read there
+pub no_feed_counts : (base : ℕ) (s : List ℕ) (found : Option ℕ) → base ≤ 36 → position (λ (b : ℕ). b == 10) s ≡ None → Counts base s found
+no_feed_counts base s found h e =
+    record { counted = λ figures rest d small same. absurd (none-some (length figures) (sym e ∙ feed_found base s figures rest (record { within = h; digits = d; small = small; same = same }))) }
+
+pub no_text_counts : (base : ℕ) (s : List ℕ) (end : ℕ) (found : Option ℕ) → base ≤ 36 → position (λ (b : ℕ). b == 10) s ≡ Some end → (IsUtf8 (take end s) → ⊥) → Counts base s found
+no_text_counts base s end found h e wrong =
+    record {
+      counted = λ figures rest d small same. let x : Begins base s figures rest = record { within = h; digits = d; small = small; same = same } in
+          absurd (wrong (subst (λ (t : List ℕ). IsUtf8 t) (sym (figures_before base s figures rest x end e)) (figures_text base s figures rest x)));
+    }
+
+pub parsed_counts : {E : Type 0} (base : ℕ) (s : List ℕ) (end : ℕ) (r : Result ℕ E) → base ≤ 36 → position (λ (b : ℕ). b == 10) s ≡ Some end → ParsesUnsigned 32 base (take end s) r → Counts base s (result_ok r)
+parsed_counts base s end r h e p =
+    record {
+      counted = λ figures rest d small same. let x : Begins base s figures rest = record { within = h; digits = d; small = small; same = same } in
+          ap result_ok (figures_parsed base s figures rest x r (subst (λ (t : List ℕ). ParsesUnsigned 32 base t r) (figures_before base s figures rest x end e) p));
+    }
 
 -- ---- the value of a line
 
@@ -103,27 +171,54 @@ shown_small Voltage v h = omega (arith, h)
 shown_small WarningLevel v h = let most = h.1 in omega (arith, most)
 shown_small FaultLevel v h = let most = h.1 in omega (arith, most)
 
--- what is counted from the figures of a number and a line feed is the number
-figures_counted : (b : ℕ) (figs rest : List ℕ) (m n : ℕ) → lacks 10 figs ≡ true → number_from b 0 figs ≡ m → m < 2147483648 → Counts b (figs ++ (10 ∷ []) ++ rest) n → n ≡ m
-figures_counted b figs rest m n l same small x =
-    x.counted figs rest (λ i. lacks_at 10 figs l i (lit≤ tt)) (append_assoc figs (10 ∷ []) rest) (subst (λ (k : ℕ). k < 2147483648) (sym same) small) ∙ same
+hexadecimal_numeral : (v : ℕ) → IsNumeral 16 (hexadecimal 8 v)
+hexadecimal_numeral v = (let l = hexadecimal_length 8 v in omega (arith, l), hexadecimal_digits 8 v)
 
-hexadecimal_counted : (v n : ℕ) (rest : List ℕ) → v < 2147483648 → Counts 16 (hexadecimal 8 v ++ (10 ∷ []) ++ rest) n → n ≡ v
-hexadecimal_counted v n rest small =
-    figures_counted 16 (hexadecimal 8 v) rest v n (hexadecimal_lacks 10 8 v (lit< tt)) (text.hexadecimal_number 8 v (let h : v < 4294967296 = omega (arith, small) in h)) small
+figures_numeral : (setting : Setting) (v : ℕ) → IsNumeral (base_of setting) (figures_of setting v)
+figures_numeral ReceiveId v = hexadecimal_numeral v
+figures_numeral TransmitId v = hexadecimal_numeral v
+figures_numeral Speed v = decimal_digits 9 (speed_number v)
+figures_numeral Voltage v = decimal_digits 9 v
+figures_numeral WarningLevel v = decimal_digits 9 v
+figures_numeral FaultLevel v = decimal_digits 9 v
 
-decimal_counted : (v n : ℕ) (rest : List ℕ) → v < 2147483648 → Counts 10 (decimal v ++ (10 ∷ []) ++ rest) n → n ≡ v
-decimal_counted v n rest small =
-    figures_counted 10 (decimal v) rest v n (decimal_lacks 10 v (lit< tt)) (text.decimal_number v (let h : v < 4294967296 = omega (arith, small) in h)) small
+-- the figures of a number below 2147483648 stand for it
+figures_value : (setting : Setting) (v : ℕ) → shown setting v < 2147483648 → digits_value (base_of setting) (figures_of setting v) ≡ shown setting v
+figures_value ReceiveId v small = hexadecimal_value 8 v (let h : v < 4294967296 = omega (arith, small) in h)
+figures_value TransmitId v small = hexadecimal_value 8 v (let h : v < 4294967296 = omega (arith, small) in h)
+figures_value Speed v small = decimal_value 9 (speed_number v) (let h : speed_number v < 10000000000 = omega (arith, small) in h)
+figures_value Voltage v small = decimal_value 9 v (let h : v < 10000000000 = omega (arith, small) in h)
+figures_value WarningLevel v small = decimal_value 9 v (let h : v < 10000000000 = omega (arith, small) in h)
+figures_value FaultLevel v small = decimal_value 9 v (let h : v < 10000000000 = omega (arith, small) in h)
 
-line_counted : (setting : Setting) (v n : ℕ) (rest : List ℕ) → shown setting v < 2147483648 → Counts (base (is_hexadecimal setting)) (drop (width_of setting) (line_text setting v ++ rest)) n → n ≡ shown setting v
+-- the figures of a line, and what follows them
+figures_there : (setting : Setting) (v : ℕ) (rest : List ℕ) → drop (width_of setting) (line_text setting v ++ rest) ≡ figures_of setting v ++ (10 ∷ rest)
 unfolding line_text
-line_counted ReceiveId v n rest small x = hexadecimal_counted v n rest small x
-line_counted TransmitId v n rest small x = hexadecimal_counted v n rest small x
-line_counted Speed v n rest small x = decimal_counted (speed_number v) n rest small x
-line_counted Voltage v n rest small x = decimal_counted v n rest small x
-line_counted WarningLevel v n rest small x = decimal_counted v n rest small x
-line_counted FaultLevel v n rest small x = decimal_counted v n rest small x
+figures_there ReceiveId v rest = append_assoc (figures_of ReceiveId v) (10 ∷ []) rest
+figures_there TransmitId v rest = append_assoc (figures_of TransmitId v) (10 ∷ []) rest
+figures_there Speed v rest = append_assoc (figures_of Speed v) (10 ∷ []) rest
+figures_there Voltage v rest = append_assoc (figures_of Voltage v) (10 ∷ []) rest
+figures_there WarningLevel v rest = append_assoc (figures_of WarningLevel v) (10 ∷ []) rest
+figures_there FaultLevel v rest = append_assoc (figures_of FaultLevel v) (10 ∷ []) rest
+
+pub base_within : (setting : Setting) → base_of setting ≤ 36
+base_within ReceiveId = omega arith
+base_within TransmitId = omega arith
+base_within Speed = omega arith
+base_within Voltage = omega arith
+base_within WarningLevel = omega arith
+base_within FaultLevel = omega arith
+
+line_begins : (setting : Setting) (v : ℕ) (s rest : List ℕ) → may_hold setting v ≡ true → s ≡ line_text setting v ++ rest → Begins (base_of setting) (drop (width_of setting) s) (figures_of setting v) rest
+line_begins setting v s rest l e =
+    let small = shown_small setting v ((may_hold_lem setting v).0 l) in
+    let value = figures_value setting v small in
+    record {
+      within = base_within setting;
+      digits = figures_numeral setting v;
+      small = let few : digits_value (base_of setting) (figures_of setting v) < 4294967296 = omega (arith, value, small) in few;
+      same = ap (drop (width_of setting)) e ∙ figures_there setting v rest;
+    }
 
 speed_back : (v : ℕ) → MayHold Speed v → value_for Speed (speed_number v) ≡ v
 speed_back v (inl e) = rw e refl
@@ -137,9 +232,22 @@ value_back Voltage v l = refl
 value_back WarningLevel v l = refl
 value_back FaultLevel v l = refl
 
+-- the value of the figures of a line
+figures_back : (setting : Setting) (v : ℕ) → may_hold setting v ≡ true → value_for setting (digits_value (base_of setting) (figures_of setting v)) ≡ v
+figures_back setting v l = ap (value_for setting) (figures_value setting v (shown_small setting v ((may_hold_lem setting v).0 l))) ∙ value_back setting v l
+
 -- the value is found, whatever follows the line
-pub value_found : (setting : Setting) (v n : ℕ) (s rest : List ℕ) → may_hold setting v ≡ true → Counts (base (is_hexadecimal setting)) (drop (width_of setting) s) n → s ≡ line_text setting v ++ rest → (n < 2147483648) × (value_for setting n ≡ v)
-value_found setting v n s rest l x e =
-    let small = shown_small setting v ((may_hold_lem setting v).0 l) in
-    let same = line_counted setting v n rest small (subst (λ (t : List ℕ). Counts (base (is_hexadecimal setting)) (drop (width_of setting) t) n) e x) in
-    (subst (λ (k : ℕ). k < 2147483648) (sym same) small, ap (value_for setting) same ∙ value_back setting v l)
+pub value_found : (setting : Setting) (v : ℕ) (s rest : List ℕ) (found : Option ℕ) → may_hold setting v ≡ true → Counts (base_of setting) (drop (width_of setting) s) found → s ≡ line_text setting v ++ rest → option_map (value_for setting) found ≡ Some v
+value_found setting v s rest found l x e =
+    let b = line_begins setting v s rest l e in
+    ap (option_map (value_for setting)) (x.counted (figures_of setting v) rest b.digits b.small b.same) ∙ ap Some (figures_back setting v l)
+
+-- two lines of a setting with anything after them: the same value
+pub values_apart : (setting : Setting) (v w : ℕ) (rest rest' : List ℕ) → may_hold setting v ≡ true → may_hold setting w ≡ true → line_text setting v ++ rest ≡ line_text setting w ++ rest' → v ≡ w
+values_apart setting v w rest rest' l l' e =
+    let s = line_text setting v ++ rest in
+    let x = line_begins setting v s rest l refl in
+    let y = line_begins setting w s rest' l' e in
+    let t = drop (width_of setting) s in
+    let same : figures_of setting v ≡ figures_of setting w = sym (figures_before (base_of setting) t (figures_of setting v) rest x (length (figures_of setting w)) (feed_found (base_of setting) t (figures_of setting w) rest' y)) ∙ figures_before (base_of setting) t (figures_of setting w) rest' y (length (figures_of setting w)) (feed_found (base_of setting) t (figures_of setting w) rest' y) in
+    sym (figures_back setting v l) ∙ ap (λ (f : List ℕ). value_for setting (digits_value (base_of setting) f)) same ∙ figures_back setting w l'

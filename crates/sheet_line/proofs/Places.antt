@@ -1,12 +1,18 @@
 -- A line at its place: how long it is, and when the bytes go on with it. Assumes nothing.
 use Prim.Native.Nat.{ℕ, ◌+◌, ◌≤◌, ◌<◌}
 use native.Mathlib.Omega.{arith}
-use mathlib.Core.Path.{◌≡◌, refl, sym, ap, ◌∙◌}
-use mathlib.Core.Bool.{Bool, true, false, ◌&&◌}
+use mathlib.Core.Path.{◌≡◌, refl, sym, ap, subst, ◌∙◌}
+use mathlib.Core.Bool.{true}
 use mathlib.Core.List.{List, [], ◌∷◌, ◌++◌}
-use lib.ListN.{length, take, drop, length-append, length-drop, take-append-drop}
-use lib.Seq.{drop_at, take-append_seam, drop-drop}
-use Rattle.words.proofs.Tests.{false_true, and_left, and_right, and_true}
+use lib.Dec.{eqb}
+use lib.ListN.{length, take, drop, length-append, length-drop}
+use lib.Seq.{drop-drop}
+use borrow.Author.Rules.{part_to_end}
+use Rattle.std.specs.Prelude.{Some}
+use Rattle.std.specs.List.{slice_range, starts_with}
+use Rattle.std.proofs.lemmas.Bool.Decides.{Decides-eqb}
+use Rattle.std.proofs.lemmas.Option.{same_Some}
+use Rattle.std.proofs.lemmas.Slice.Eq.{starts_is}
 use Rattle.maintenance_pages.specs.declared.setting.Setting.{Setting}
 use Rattle.maintenance_pages.specs.declared.setting.Setting.TheVariants.{ReceiveId, TransmitId, Speed, Voltage, WarningLevel, FaultLevel}
 use Rattle.maintenance_pages.specs.Settings.{speed_number}
@@ -15,9 +21,10 @@ use Rattle.text.specs.Put.{Put}
 use Rattle.text.proofs.Figures.{hexadecimal_length, decimal_length}
 use Rattle.text.proofs.Put.{kept_length}
 use Rattle.text.proofs.Fitted.{text_at_start}
+use Rattle.sheet_line.specs.declared.reading.Line.{Line}
 use Rattle.sheet_line.specs.Lines.{figures_of, line_text, may_hold}
 use Rattle.sheet_line.specs.Number.{width_of}
-use Rattle.sheet_line.specs.Reading.{least_of, ReadsLine}
+use Rattle.sheet_line.specs.Reading.{IsLineAt}
 
 -- ---- how long a line is
 
@@ -44,100 +51,56 @@ ten_figures FaultLevel v = let l = decimal_length v in omega (arith, l)
 pub line_fits : (setting : Setting) (v : ℕ) → length (line_text setting v) ≤ 19
 line_fits setting v = let l = line_length setting v in let m = ten_figures setting v in omega (arith, l, m)
 
--- ---- bytes that begin with a text
+-- bytes that begin with a line are longer than its name and the space
+pub line_within : (setting : Setting) (v : ℕ) (s rest : List ℕ) → s ≡ line_text setting v ++ rest → width_of setting < length s
+line_within setting v s rest e = let l = line_length setting v in let m = ap length e ∙ length-append (line_text setting v) rest in omega (arith, l, m)
 
-pub too_short : {X : Type 0} (s t rest : List ℕ) → length s < length t → s ≡ t ++ rest → X
-too_short s t rest h e = absurd (let l = ap length e ∙ length-append t rest in omega (arith, l, h))
+-- what is lent from a place on
+pub from_place : (s t : List ℕ) (n at : ℕ) → t ≡ slice_range s n (length s) → n ≡ at → t ≡ drop at s
+from_place s t n at e h = e ∙ part_to_end s n ∙ ap (λ (k : ℕ). drop k s) h
 
-pub begins_so : (s t : List ℕ) → take (length t) s ≡ t → s ≡ t ++ drop (length t) s
-begins_so s t e = sym (take-append-drop (length t) s) ∙ ap (λ (u : List ℕ). u ++ drop (length t) s) e
-
-pub begins_with : (s t rest : List ℕ) → s ≡ t ++ rest → take (length t) s ≡ t
-begins_with s t rest e = ap (take (length t)) e ∙ take-append_seam t rest
-
--- ---- a line read at its place
-
-least_legal : (setting : Setting) → may_hold setting (least_of setting) ≡ true
-least_legal ReceiveId = refl
-least_legal TransmitId = refl
-least_legal Speed = refl
-least_legal Voltage = refl
-least_legal WarningLevel = refl
-least_legal FaultLevel = refl
-
--- a place where no line stands
-not_there : (setting : Setting) (s : List ℕ) (at least : ℕ) → least ≡ least_of setting → ((w : ℕ) (rest : List ℕ) → may_hold setting w ≡ true → drop at s ≡ line_text setting w ++ rest → ⊥) → ReadsLine setting s at (record { right = false; value = least; next = 0 })
-not_there setting s at least l none =
-    record {
-      legal = ap (may_hold setting) l ∙ least_legal setting;
-      within = omega arith;
-      same = λ e. false_true (sym e);
-      after = λ e. false_true (sym e);
-      found = λ w rest legal e. absurd (none w rest legal e);
-      wrong = λ _. (l, refl);
-    }
-
-pub past_end : (setting : Setting) (s : List ℕ) (at least : ℕ) → least ≡ least_of setting → length s < at → ReadsLine setting s at (record { right = false; value = least; next = 0 })
-past_end setting s at least l h =
-    not_there setting s at least l
-    (λ w rest legal e. too_short (drop at s) (line_text setting w) rest (let n = length-drop at s in let m = line_length setting w in omega (arith, n, m, h)) e)
-
--- what is known of the value that was found and of the comparison with its line
-pub record Compared (setting : Setting) (t : List ℕ) (v : ℕ) (n : ℕ) (line : List ℕ) (same : Bool) : Type 0 where
-  pub value : (w : ℕ) (rest : List ℕ) → may_hold setting w ≡ true → t ≡ line_text setting w ++ rest → v ≡ w
-  pub long : n ≡ length (line_text setting v)
-  pub text : line ≡ line_text setting v
-  pub begins : (same ≡ true → t ≡ line ++ drop (length line) t) × ((rest : List ℕ) → t ≡ line ++ rest → same ≡ true)
+-- ---- a line written back and compared
 
 -- the line of a value in an array of 20 bytes
-line_text_lem : (setting : Setting) (d e : List ℕ) (v n : ℕ) → length d ≡ 20 → Put d 0 (line_text setting v) n e → (n ≡ length (line_text setting v)) × (take n e ≡ line_text setting v)
-line_text_lem setting d e v n long put = let l = line_fits setting v in text_at_start d e (line_text setting v) n (omega (arith, l, long)) (omega (arith, long)) put
+pub line_written : (setting : Setting) (d e : List ℕ) (v n : ℕ) → length d ≡ 20 → Put d 0 (line_text setting v) n e → (n ≡ length (line_text setting v)) × (take n e ≡ line_text setting v)
+line_written setting d e v n long put = let l = line_fits setting v in text_at_start d e (line_text setting v) n (omega (arith, l, long)) (omega (arith, long)) put
 
 pub line_in_array : (setting : Setting) (d e : List ℕ) (v n : ℕ) → length d ≡ 20 → Put d 0 (line_text setting v) n e → n ≤ length e
 line_in_array setting d e v n long put =
     let l = line_fits setting v in
-    let same = (line_text_lem setting d e v n long put).0 in
+    let same = (line_written setting d e v n long put).0 in
     let kept = kept_length put in
     omega (arith, l, same, kept, long)
 
-pub compared : (setting : Setting) (t d e : List ℕ) (v n : ℕ) (same : Bool) → length d ≡ 20 → ((w : ℕ) (rest : List ℕ) → may_hold setting w ≡ true → t ≡ line_text setting w ++ rest → v ≡ w) → Put d 0 (line_text setting v) n e → (same ≡ true → t ≡ take n e ++ drop (length (take n e)) t) × ((rest : List ℕ) → t ≡ take n e ++ rest → same ≡ true) → Compared setting t v n (take n e) same
-compared setting t d e v n same long value put begins =
-    let both = line_text_lem setting d e v n long put in
-    record { value = value; long = both.0; text = both.1; begins = begins }
+begins : (t line : List ℕ) → (starts_with eqb t line ≡ true → t ≡ line ++ drop (length line) t) × ((rest : List ℕ) → t ≡ line ++ rest → starts_with eqb t line ≡ true)
+begins t line = starts_is Decides-eqb t line (starts_with eqb t line) refl
 
-module _ (setting : Setting) (s t line : List ℕ) (at v n : ℕ) (same : Bool) (q : t ≡ drop at s) (h : at ≤ length s) (x : Compared setting t v n line same) where
-  there : (may_hold setting v && same) ≡ true → t ≡ line_text setting v ++ drop n t
-  there r =
-      x.begins.0 (and_right (may_hold setting v) same r)
-      ∙ ap (λ (u : List ℕ). u ++ drop (length line) t) x.text
-      ∙ ap (λ (k : ℕ). line_text setting v ++ drop k t) (ap length x.text ∙ sym x.long)
+module _ (setting : Setting) (s t line : List ℕ) (at v n : ℕ) (here : t ≡ drop at s) (text : (n ≡ length (line_text setting v)) × (line ≡ line_text setting v)) where
+  there : starts_with eqb t line ≡ true → t ≡ line_text setting v ++ drop n t
+  there same = subst (λ (u : List ℕ). t ≡ u ++ drop (length u) t) text.1 ((begins t line).0 same) ∙ ap (λ (k : ℕ). line_text setting v ++ drop k t) (sym text.0)
 
-  onward : drop (at + n) s ≡ drop n t
-  onward = sym (drop-drop n at s) ∙ ap (drop n) (sym q)
+  onward : drop n t ≡ drop (at + n) s
+  onward = ap (drop n) here ∙ drop-drop n at s
 
-  pub place_after : (may_hold setting v && same) ≡ true → at + n ≤ length s
-  place_after r =
-      let l = sym (length-drop at s) ∙ ap length (sym q ∙ there r) ∙ length-append (line_text setting v) (drop n t) in
-      let m = x.long in
-      omega (arith, l, m, h)
+  pub line_within_bytes : at ≤ length s → starts_with eqb t line ≡ true → at + n ≤ length s
+  line_within_bytes h same =
+      let all = sym (length-drop at s) ∙ ap length (sym here ∙ there same) ∙ length-append (line_text setting v) (drop n t) in
+      let long = text.0 in
+      omega (arith, all, long, h)
 
-  pub right_line : (may_hold setting v && same) ≡ true → ReadsLine setting s at (record { right = true; value = v; next = at + n })
-  right_line r =
+  pub line_read : at ≤ length s → may_hold setting v ≡ true → starts_with eqb t line ≡ true → IsLineAt setting s at (record { value = v; next = at + n })
+  line_read h legal same =
       record {
-        legal = and_left (may_hold setting v) same r;
-        within = place_after r;
-        same = λ _. sym q ∙ there r ∙ ap (λ (u : List ℕ). line_text setting v ++ u) (sym onward);
-        after = λ _. ap (λ (k : ℕ). at + k) x.long;
-        wrong = λ e. false_true e;
-        found = λ w rest legal e. (
-          refl,
-          onward ∙ ap (drop n) (q ∙ e) ∙ drop_at (line_text setting w) rest n (sym (x.long ∙ ap (λ (k : ℕ). length (line_text setting k)) (x.value w rest legal (q ∙ e)))),
-        );
+        legal = legal;
+        same = sym here ∙ there same ∙ ap (λ (u : List ℕ). line_text setting v ++ u) onward;
+        after = ap (λ (k : ℕ). at + k) text.0;
+        within = line_within_bytes h same;
       }
 
-  pub wrong_line_lem : (least : ℕ) → least ≡ least_of setting → (may_hold setting v && same) ≡ false → ReadsLine setting s at (record { right = false; value = least; next = 0 })
-  wrong_line_lem least l r =
-      not_there setting s at least l
-      (λ w rest legal e. let is : v ≡ w = x.value w rest legal (q ∙ e) in
-      let here = q ∙ e ∙ ap (λ (k : ℕ). line_text setting k ++ rest) (sym is) ∙ ap (λ (k : List ℕ). k ++ rest) (sym x.text) in
-      false_true (sym (and_true (may_hold setting v) same (ap (may_hold setting) is ∙ legal) (x.begins.1 rest here)) ∙ r))
+  -- a line that stands there is that of the value that was found
+  pub line_found : ((w : ℕ) (rest : List ℕ) → may_hold setting w ≡ true → t ≡ line_text setting w ++ rest → Some v ≡ Some w) → (l : Line) → IsLineAt setting s at l → (may_hold setting v ≡ true) × (starts_with eqb t line ≡ true)
+  line_found value l x =
+      let is : l.value ≡ v = sym (same_Some v l.value (value l.value (drop l.next s) x.legal (here ∙ x.same))) in (
+        subst (λ (w : ℕ). may_hold setting w ≡ true) is x.legal,
+        (begins t line).1 (drop l.next s) (here ∙ x.same ∙ ap (λ (w : ℕ). line_text setting w ++ drop l.next s) is ∙ ap (λ (u : List ℕ). u ++ drop l.next s) (sym text.1)),
+      )

@@ -2,12 +2,14 @@
 use Prim.Native.Nat.{ℕ, ◌+◌, ◌≤◌, ◌<◌}
 use native.Mathlib.Omega.{arith}
 use mathlib.Core.Path.{◌≡◌, refl, sym, ap, ◌∙◌}
-use mathlib.Core.Bool.{true, false, ◌&&◌}
+use mathlib.Core.Bool.{true, ◌&&◌}
 use mathlib.Core.List.{List, [], ◌∷◌, ◌++◌, append_cancel_left}
 use mathlib.Core.Logic.{◌⊎◌, inl, inr}
 use lib.Dec.{lit≤, lit<}
-use lib.ListN.{length, get_or, drop}
-use Rattle.words.proofs.Tests.{decided, false_true, and_left, and_right}
+use lib.ListN.{length, get_or, drop, length-append, length-drop}
+use lib.Seq.{drop_at, drop-drop}
+use Rattle.std.specs.Prelude.{Option, Some, None}
+use Rattle.words.proofs.Tests.{and_left, and_right}
 use Rattle.maintenance_pages.specs.declared.setting.Setting.{Setting}
 use Rattle.maintenance_pages.specs.declared.setting.Setting.TheVariants.{ReceiveId, TransmitId, Speed, Voltage, WarningLevel, FaultLevel}
 use Rattle.maintenance_pages.specs.Settings.{speed_number}
@@ -15,10 +17,10 @@ use Rattle.maintenance_pages.proofs.Promise.{promise as maintenance}
 use Rattle.text.proofs.Figures.{lacks, lacks_append, lacks_at, hexadecimal_lacks, decimal_lacks, hexadecimal_length, decimal_length, decimal_below}
 use Rattle.sheet_line.specs.declared.reading.Line.{Line}
 use Rattle.sheet_line.specs.Lines.{name_of, figures_of, line_text, may_hold, longest_of}
-use Rattle.sheet_line.specs.Number.{is_hexadecimal, base, width_of}
-use Rattle.sheet_line.specs.Reading.{ReadsLine}
+use Rattle.sheet_line.specs.Number.{width_of}
+use Rattle.sheet_line.specs.Reading.{IsLineAt, ReadsLine}
 use Rattle.sheet_line.specs.Promise.{Promise}
-use Rattle.sheet_line.proofs.Numbers.{scan, scanned, may_hold_lem, value_found}
+use Rattle.sheet_line.proofs.Numbers.{may_hold_lem, values_apart}
 use Rattle.sheet_line.proofs.Places.{line_length}
 
 -- ---- no two lines are alike
@@ -26,10 +28,7 @@ use Rattle.sheet_line.proofs.Places.{line_length}
 -- two lines of a setting with anything after them: the same value, and the same after
 line_apart : (setting : Setting) (v w : ℕ) (rest rest' : List ℕ) → may_hold setting v ≡ true → may_hold setting w ≡ true → line_text setting v ++ rest ≡ line_text setting w ++ rest' → (v ≡ w) × (rest ≡ rest')
 line_apart setting v w rest rest' h h' e =
-    let t = line_text setting v ++ rest in
-    let n = scan (base (is_hexadecimal setting)) 0 (drop (width_of setting) t) in
-    let counts = scanned (is_hexadecimal setting) (drop (width_of setting) t) n refl in
-    let same : v ≡ w = sym (value_found setting v n t rest h counts refl).1 ∙ (value_found setting w n t rest' h' counts e).1 in
+    let same = values_apart setting v w rest rest' h h' e in
     (same, append_cancel_left (line_text setting v) rest rest' (e ∙ ap (λ (x : ℕ). line_text setting x ++ rest') (sym same)))
 
 -- ---- how long a line is
@@ -84,19 +83,37 @@ sign_nowhere setting v i (inr e) = lacks_at 46 (line_text setting v) (dot_lacks 
 
 -- ---- one outcome only
 
-right_alike : (setting : Setting) (s : List ℕ) (at : ℕ) (r r' : Line) → ReadsLine setting s at r → ReadsLine setting s at r' → r.right ≡ true → (r'.right ≡ true) × (r.value ≡ r'.value)
-right_alike setting s at r r' x y t =
-    let there = y.found r.value (drop r.next s) x.legal (x.same t) in
-    (there.0, (line_apart setting r.value r'.value (drop r.next s) (drop r'.next s) x.legal y.legal (sym (x.same t) ∙ y.same there.0)).0)
+-- a line that stands at a place is there to be read
+line_there : (setting : Setting) (s : List ℕ) (at v : ℕ) (rest : List ℕ) → may_hold setting v ≡ true → drop at s ≡ line_text setting v ++ rest → IsLineAt setting s at (record { value = v; next = at + length (line_text setting v) })
+line_there setting s at v rest legal e =
+    let n = length (line_text setting v) in
+    let onward : drop (at + n) s ≡ rest = sym (drop-drop n at s) ∙ ap (drop n) e ∙ drop_at (line_text setting v) rest n refl in
+    let all = sym (length-drop at s) ∙ ap length e ∙ length-append (line_text setting v) rest in
+    let some = line_length setting v in
+    record {
+      legal = legal;
+      same = e ∙ ap (λ (u : List ℕ). line_text setting v ++ u) (sym onward);
+      after = refl;
+      within = omega (arith, all, some);
+    }
 
-one_line : (setting : Setting) (s : List ℕ) (at : ℕ) (r r' : Line) → ReadsLine setting s at r → ReadsLine setting s at r' → r ≡ r'
-one_line setting s at r r' x y =
-    decided r.right
-    (λ t. let both = right_alike setting s at r r' x y t in
-    let next = x.after t ∙ ap (λ (v : ℕ). at + length (line_text setting v)) both.1 ∙ sym (y.after both.0) in
-    λ i. record { right = (t ∙ sym both.0) i; value = both.1 i; next = next i })
-    (λ t. let wrong : r'.right ≡ false = decided r'.right (λ u. false_true (sym (right_alike setting s at r' r y x u).0 ∙ t)) (λ u. u) in
-    λ i. record { right = (t ∙ sym wrong) i; value = ((x.wrong t).0 ∙ sym (y.wrong wrong).0) i; next = ((x.wrong t).1 ∙ sym (y.wrong wrong).1) i })
+same_line : (setting : Setting) (s : List ℕ) (at : ℕ) (l m : Line) → IsLineAt setting s at l → IsLineAt setting s at m → l ≡ m
+same_line setting s at l m x y =
+    let v = (line_apart setting l.value m.value (drop l.next s) (drop m.next s) x.legal y.legal (sym x.same ∙ y.same)).0 in
+    let next = x.after ∙ ap (λ (w : ℕ). at + length (line_text setting w)) v ∙ sym y.after in
+    λ i. record { value = v i; next = next i }
+
+one_line : (setting : Setting) (s : List ℕ) (at : ℕ) (r r' : Option Line) → ReadsLine setting s at r → ReadsLine setting s at r' → r ≡ r'
+one_line setting s at (Some l) (Some m) x y = ap Some (same_line setting s at l m x y)
+one_line setting s at (Some l) None x y = absurd (y l x)
+one_line setting s at None (Some m) x y = absurd (x m y)
+one_line setting s at None None x y = refl
+
+line_found : (setting : Setting) (s : List ℕ) (at : ℕ) (r : Option Line) → ReadsLine setting s at r → (v : ℕ) (rest : List ℕ) → may_hold setting v ≡ true → drop at s ≡ line_text setting v ++ rest → (line : Line) × (r ≡ Some line) × (line.value ≡ v) × (drop line.next s ≡ rest)
+line_found setting s at (Some l) x v rest legal e =
+    let both = line_apart setting l.value v (drop l.next s) rest x.legal legal (sym x.same ∙ e) in
+    (l, refl, both.0, both.1)
+line_found setting s at None x v rest legal e = absurd (x _ (line_there setting s at v rest legal e))
 
 pub promise : Promise
 promise =
@@ -105,5 +122,6 @@ promise =
       apart = line_apart;
       comma_or_dot = sign_nowhere;
       bound = line_most;
+      found = line_found;
       one = one_line;
     }

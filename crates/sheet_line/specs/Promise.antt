@@ -1,5 +1,5 @@
 -- What the crate of a sheet's lines promises. `proofs/Promise` proves it.
-use Rattle.std.specs.Prelude.{ℕ, ◌≤◌, ◌≡◌, true, List, ◌++◌, length, get_or, ◌↔◌, ◌⊎◌}
+use Rattle.std.specs.Prelude.{ℕ, ◌≤◌, ◌≡◌, true, Option, Some, List, ◌++◌, length, get_or, drop, ◌↔◌, ◌⊎◌}
 use Rattle.maintenance_pages.specs.declared.setting.Setting.{Setting}
 use Rattle.maintenance_pages.specs.declared.setting.Setting.TheVariants.{ReceiveId, TransmitId, Speed, Voltage, WarningLevel, FaultLevel}
 use Rattle.sheet_line.specs.declared.reading.Line.{Line}
@@ -23,5 +23,7 @@ pub record Promise : Type 0 where
   -- no line has a comma or a dot
   pub comma_or_dot : (setting : Setting) (v i : ℕ) → (get_or (line_text setting v) i 0 ≡ 44) ⊎ (get_or (line_text setting v) i 0 ≡ 46) → ⊥
   pub bound : (setting : Setting) (v : ℕ) → may_hold setting v ≡ true → length (line_text setting v) ≤ longest_of setting
+  -- wherever the line of a value that it may hold stands, it is read, with what follows it
+  pub found : (setting : Setting) (s : List ℕ) (at : ℕ) (r : Option Line) → ReadsLine setting s at r → (v : ℕ) (rest : List ℕ) → may_hold setting v ≡ true → drop at s ≡ line_text setting v ++ rest → (line : Line) × (r ≡ Some line) × (line.value ≡ v) × (drop line.next s ≡ rest)
   -- one outcome only
-  pub one : (setting : Setting) (s : List ℕ) (at : ℕ) (r r' : Line) → ReadsLine setting s at r → ReadsLine setting s at r' → r ≡ r'
+  pub one : (setting : Setting) (s : List ℕ) (at : ℕ) (r r' : Option Line) → ReadsLine setting s at r → ReadsLine setting s at r' → r ≡ r'

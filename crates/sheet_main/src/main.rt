@@ -6,16 +6,15 @@ ghost use Rattle.sheet_main.specs.LastWord.{SaidOfSheet};
 
 use door::LastWord;
 use sheet::output::output;
-use sheet::reading::{SheetRead, read};
+use sheet::reading::read;
 
 // The last word of bytes whose output was written.
 fn last_word(s: &[u8]) -> LastWord
     ensures { SaidOfSheet s.now result }
 {
-    let answer = read(s);
-    match answer {
-        SheetRead::Settings(_) => LastWord::Complete,
-        SheetRead::Refused(_) => LastWord::Refused,
+    match read(s) {
+        Ok(_) => LastWord::Complete,
+        Err(_) => LastWord::Refused,
     }
 }
 
@@ -24,11 +23,10 @@ fn write_output(s: &[u8], text: &mut [u8]) -> LastWord
     ensures { SaidOfSheet s.now result }
 {
     let end = output(s, text);
-    let written = door::write_first(text, end);
-    if !written {
-        return LastWord::Cut;
+    match door::write_first(text, end) {
+        Ok(()) => last_word(s),
+        Err(_) => LastWord::Cut,
     }
-    last_word(s)
 }
 
 // One byte more than the longest sheet is read, and nothing that is written is longer than the buffer. Nothing is
@@ -36,13 +34,10 @@ fn write_output(s: &[u8], text: &mut [u8]) -> LastWord
 fn main(rt: HostRuntime) {
     let mut stdin = rt.stdin();
     let mut bytes = [0; 85];
-    let input = door::read_input(&mut stdin, &mut bytes);
-    if input.failed {
-        door::close(LastWord::Unread);
-        return;
-    }
-    let n = input.n;
     let mut text = [0; 200];
-    let word = write_output(&bytes[..n], &mut text);
+    let word = match door::read_input(&mut stdin, &mut bytes) {
+        Ok(n) => write_output(&bytes[..n], &mut text),
+        Err(_) => LastWord::Unread,
+    };
     door::close(word);
 }

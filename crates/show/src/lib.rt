@@ -1,12 +1,13 @@
 // A line of an answer, the way the programs that answer cases write one: it is put together first and written at
 // once, so that a program knows whether it was written.
-#![tactic(auto)]
+#![tactic(auto, using(crate::proofs::Adding::added_twice))]
 
 ghost use Rattle.std.specs.Prelude.{◌≡◌, [], ◌∷◌, ◌%◌};
-ghost use Rattle.text.specs.Figures.{figure as figureOf, hexadecimal, decimal as decimalFigures};
-ghost use Rattle.show.specs.Lines.{Adds, line_feed, value_text, refused_text, identifier_text, data_text, frame_text, no_line};
+ghost use Rattle.text.specs.Figures.{figure, hexadecimal, decimal};
+ghost use Rattle.show.specs.Lines.{Adds, line_feed, value_text, refused_text, identifier_text, spaced_text, data_text, frame_text, no_line};
 
 use codec_pages::frame::Frame;
+use door::{WriteFailed, write_first};
 use refusal::Refusal;
 use text::hex_figure;
 
@@ -18,127 +19,127 @@ pub struct Line {
     pub n: usize,
 }
 
-pub fn empty() -> Line
-    ensures { result ≡ no_line }
-{
-    Line {
-        bytes: [0; 160],
-        n: 0,
+#[tactic(auto, unfolding(crate::specs::Lines::added))]
+impl Line {
+    pub fn empty() -> Line
+        ensures { result ≡ no_line }
+    {
+        Line {
+            bytes: [0; 160],
+            n: 0,
+        }
+    }
+
+    pub fn text(&mut self, s: &[u8])
+        ensures { Adds self.old s.now self.new }
+    {
+        self.n = text::bytes(&mut self.bytes, self.n, s);
+    }
+
+    pub fn byte(&mut self, b: u8)
+        ensures { Adds self.old (b ∷ []) self.new }
+    {
+        self.n = text::byte(&mut self.bytes, self.n, b);
+    }
+
+    // A number of 32 bits in eight digits.
+    pub fn hex8(&mut self, word: u32)
+        ensures { Adds self.old (hexadecimal 8 word) self.new }
+    {
+        self.n = text::hex8(&mut self.bytes, self.n, word);
+    }
+
+    // A byte in two digits after one space.
+    pub fn spaced(&mut self, b: u8)
+        ensures { Adds self.old (spaced_text b) self.new }
+    {
+        self.n = text::spaced_hex2(&mut self.bytes, self.n, b);
+    }
+
+    // A number in decimal.
+    pub fn decimal(&mut self, number: u32)
+        ensures { Adds self.old (decimal number) self.new }
+    {
+        self.n = text::decimal(&mut self.bytes, self.n, number);
     }
 }
 
-pub fn text(l: Line, s: &[u8]) -> Line
-    ensures { Adds l s.now result }
-{
-    let mut bytes = l.bytes;
-    let n = text::bytes(&mut bytes, l.n, s);
-    Line { bytes, n }
-}
-
-pub fn byte(l: Line, b: u8) -> Line
-    ensures { Adds l (b ∷ []) result }
-{
-    let mut bytes = l.bytes;
-    let n = text::byte(&mut bytes, l.n, b);
-    Line { bytes, n }
-}
-
-// The last hexadecimal digit of a number.
-fn figure(l: Line, n: u32) -> Line
-    ensures { Adds l (figureOf (n % 16) ∷ []) result }
-{
-    byte(l, hex_figure(n))
-}
-
-// A byte in two digits.
-pub fn hex2(l: Line, b: u8) -> Line
-    ensures { Adds l (hexadecimal 2 b) result }
-{
-    let n = b as u32;
-    figure(figure(l, n / 16), n)
-}
-
-// A number of 32 bits in eight digits.
-pub fn hex8(l: Line, word: u32) -> Line
-    ensures { Adds l (hexadecimal 8 word) result }
-{
-    let mut bytes = l.bytes;
-    let n = text::hex8(&mut bytes, l.n, word);
-    Line { bytes, n }
-}
-
-// A byte in two digits after one space.
-pub fn spaced(l: Line, b: u8) -> Line
-    ensures { Adds l (32 ∷ hexadecimal 2 b) result }
-{
-    let mut bytes = l.bytes;
-    let n = text::spaced_hex2(&mut bytes, l.n, b);
-    Line { bytes, n }
-}
-
-// A number in decimal.
-pub fn decimal(l: Line, number: u32) -> Line
-    ensures { Adds l (decimalFigures number) result }
-{
-    let mut bytes = l.bytes;
-    let n = text::decimal(&mut bytes, l.n, number);
-    Line { bytes, n }
-}
-
-// A number in decimal after one space.
-pub fn value(l: Line, number: u32) -> Line
-    ensures { Adds l (value_text number) result }
-{
-    decimal(byte(l, 32), number)
-}
-
-pub fn refused(l: Line, why: Refusal) -> Line
-    ensures { Adds l (refused_text why) result }
-{
-    value(text(l, b"refused"), refusal::number(why) as u32)
-}
-
-// Eight digits of an extended identifier. No frame that is sent is standard: three would show that one is.
-fn identifier(l: Line, f: Frame) -> Line
-    ensures { Adds l (identifier_text f) result }
-{
-    let n = f.identifier;
-    let extended = f.extended;
-    if extended {
-        return hex8(l, n);
+impl Line {
+    // The last hexadecimal digit of a number.
+    fn figure(&mut self, n: u32)
+        ensures { Adds self.old (figure (n % 16) ∷ []) self.new }
+    {
+        self.byte(hex_figure(n));
     }
-    figure(figure(figure(l, n / 16 / 16), n / 16), n)
-}
 
-// All eight bytes, those past the length too.
-fn eight(l: Line, b: [u8; 8]) -> Line
-    ensures { Adds l (data_text b) result }
-{
-    let a = spaced(spaced(spaced(spaced(l, b[0]), b[1]), b[2]), b[3]);
-    spaced(spaced(spaced(spaced(a, b[4]), b[5]), b[6]), b[7])
-}
-
-// The identifier, the length and the bytes.
-pub fn frame(l: Line, f: Frame) -> Line
-    ensures { Adds l (frame_text f) result }
-{
-    let bytes = f.bytes;
-    eight(value(identifier(l, f), f.length as u32), bytes)
-}
-
-// The end of a line.
-pub fn ended(l: Line) -> Line
-    ensures { Adds l line_feed result }
-{
-    byte(l, b'\n')
-}
-
-// Writes the line. False where it could not be written to its end.
-pub fn written(l: Line) -> bool {
-    let n = l.n;
-    let bytes = l.bytes;
-    if 160 < n {
-        return false;
+    // A byte in two digits.
+    #[tactic(auto, using(crate::proofs::Adding::added_twice), unfolding(text::specs::Figures::hexadecimal))]
+    pub fn hex2(&mut self, b: u8)
+        ensures { Adds self.old (hexadecimal 2 b) self.new }
+    {
+        self.figure(b as u32 / 16);
+        self.figure(b as u32);
     }
-    door::write_first(&bytes, n)
+
+    // Bytes in two digits each, each after one space.
+    #[tactic(auto, using(crate::proofs::Adding::added_twice, crate::proofs::Adding::added_none, std::proofs::lemmas::Grind::common_steps))]
+    pub fn data(&mut self, bytes: &[u8])
+        ensures { Adds self.old (data_text bytes.now) self.new }
+    {
+        for b in bytes {
+            self.spaced(*b);
+        }
+    }
+
+    // A number in decimal after one space.
+    pub fn value(&mut self, number: u32)
+        ensures { Adds self.old (value_text number) self.new }
+    {
+        self.byte(b' ');
+        self.decimal(number);
+    }
+
+    pub fn refused(&mut self, why: Refusal)
+        ensures { Adds self.old (refused_text why) self.new }
+    {
+        self.text(b"refused");
+        self.value(u32::from(u8::from(why)));
+    }
+
+    // Eight digits of an extended identifier. No frame that is sent is standard: three would show that one is.
+    #[tactic(auto, using(crate::proofs::Adding::added_twice), unfolding(text::specs::Figures::hexadecimal))]
+    fn identifier(&mut self, f: Frame)
+        ensures { Adds self.old (identifier_text f) self.new }
+    {
+        let n = f.identifier;
+        if f.extended {
+            self.hex8(n);
+        } else {
+            self.figure(n / 16 / 16);
+            self.figure(n / 16);
+            self.figure(n);
+        }
+    }
+
+    // The identifier, the length and all eight bytes, those past the length too.
+    pub fn frame(&mut self, f: Frame)
+        ensures { Adds self.old (frame_text f) self.new }
+    {
+        self.identifier(f);
+        self.value(f.length as u32);
+        self.data(&f.bytes);
+    }
+
+    // The end of a line.
+    pub fn end(&mut self)
+        ensures { Adds self.old line_feed self.new }
+    {
+        self.byte(b'\n');
+    }
+
+    // Writes the line, to its end.
+    pub fn write(&self) -> Result<(), WriteFailed> {
+        let text = self.bytes.get(..self.n).ok_or(WriteFailed)?;
+        write_first(text, text.len())
+    }
 }

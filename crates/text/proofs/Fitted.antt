@@ -8,30 +8,30 @@ use mathlib.Core.List.{List, [], ◌∷◌, ◌++◌}
 use lib.ListN.{length, take, drop}
 use lib.Seq.{sets, sets-eq, take_at}
 use borrow.Author.Tests.{ltb-false}
-use Rattle.words.proofs.Tests.{decided, false_true}
+use Rattle.words.proofs.Tests.{decided}
 use Rattle.refusal.specs.declared.Refusal.{Refusal}
 use Rattle.refusal.specs.declared.Refusal.TheVariants.{ShortBuffer}
 use Rattle.refusal.specs.Conditions.{◌when◌, good}
 use Rattle.refusal.proofs.Conditions.{pick}
-use Rattle.text.specs.declared.written.Written.{Written}
-use Rattle.text.specs.declared.written.Written.TheVariants.{Text, Refused}
+use Rattle.std.specs.declared.result.Result.{Result}
+use Rattle.std.specs.declared.result.Result.TheVariants.{Ok, Err}
 use Rattle.text.specs.Put.{Put, place, last_place}
 use Rattle.text.specs.Written.{is_short, fitted, Fitted, told_text}
 use Rattle.text.proofs.Put.{place_within}
 
 -- ---- how an answer is had
 
-pub short_refused : (t held : List ℕ) → is_short t (length held) ≡ true → Fitted t held (Refused ShortBuffer) held
+pub short_refused : (t held : List ℕ) → is_short t (length held) ≡ true → Fitted t held (Err ShortBuffer) held
 short_refused t held short =
     record {
-      answered = ap (λ (b : Bool). cond b (Refused ShortBuffer) (Text (length t))) (sym short);
+      answered = ap (λ (b : Bool). cond b (Err ShortBuffer) (Ok (length t))) (sym short);
       holds = ap (λ (b : Bool). cond b held (sets held 0 t)) (sym short);
     }
 
-pub text_written : (t held after : List ℕ) (r : ℕ) → length t ≤ last_place → is_short t (length held) ≡ false → Put held 0 t r after → Fitted t held (Text r) after
+pub text_written : (t held after : List ℕ) (r : ℕ) → length t ≤ last_place → is_short t (length held) ≡ false → Put held 0 t r after → Fitted t held (Ok r) after
 text_written t held after r within fits p =
     record {
-      answered = ap Text (p.goes_on ∙ ap place (zero-add (length t)) ∙ place_within (length t) within) ∙ ap (λ (b : Bool). cond b (Refused ShortBuffer) (Text (length t))) (sym fits);
+      answered = ap Ok (p.goes_on ∙ ap place (zero-add (length t)) ∙ place_within (length t) within) ∙ ap (λ (b : Bool). cond b (Err ShortBuffer) (Ok (length t))) (sym fits);
       holds = p.holds ∙ ap (λ (b : Bool). cond b held (sets held 0 t)) (sym fits);
     }
 
@@ -41,48 +41,30 @@ stands : (t held : List ℕ) → length t ≤ length held → take (length t) (s
 stands t held h = ap (take (length t)) (sets-eq t held 0 (omega (arith, h))) ∙ take_at t (drop (0 + length t) held) (length t) refl
 
 -- on paper: 12 where the buffer is short, otherwise the text, and it stands in the buffer
-pub fitted_told : (t held : List ℕ) (r : Written) (after : List ℕ) → Fitted t held r after → told_text r after ≡ pick ((12 when is_short t (length held)) ∷ []) t
+pub fitted_told : (t held : List ℕ) (r : Result ℕ Refusal) (after : List ℕ) → Fitted t held r after → told_text r after ≡ pick ((12 when is_short t (length held)) ∷ []) t
 fitted_told t held r after x =
-    ap (λ (y : Written). told_text y after) x.answered
+    ap (λ (y : Result ℕ Refusal). told_text y after) x.answered
     ∙ ap (told_text (fitted t (length held))) x.holds
     ∙ decided (is_short t (length held))
     (λ s. rw s refl)
     (λ s. rw s (ap good (stands t held (ltb-false (length held) (length t) s))))
 
-abbrev is_text : Written → Bool
-is_text (Text n) = true
-is_text (Refused why) = false
-
-abbrev size_of : Written → ℕ
-size_of (Text n) = n
-size_of (Refused why) = 0
-
-pub text_not_refused : {X : Type 0} (n : ℕ) (why : Refusal) → Text n ≡ Refused why → X
-text_not_refused n why e = false_true (ap is_text e)
-
-fits_by : (t held after : List ℕ) (n : ℕ) (short : Bool) → is_short t (length held) ≡ short → Fitted t held (Text n) after → is_short t (length held) ≡ false
-fits_by t held after n false q x = q
-fits_by t held after n true q x = text_not_refused n ShortBuffer (x.answered ∙ ap (λ (b : Bool). cond b (Refused ShortBuffer) (Text (length t))) q)
-
 -- a text is told by its length, and was stored from the buffer's start
-pub text_told : (t held after : List ℕ) (n : ℕ) → Fitted t held (Text n) after → (is_short t (length held) ≡ false) × (n ≡ length t) × (after ≡ sets held 0 t)
+pub text_told : (t held after : List ℕ) (n : ℕ) → Fitted t held (Ok n) after → (is_short t (length held) ≡ false) × (n ≡ length t) × (after ≡ sets held 0 t)
 text_told t held after n x =
-    let fits = fits_by t held after n (is_short t (length held)) refl x in (
-      fits,
-      ap size_of (x.answered ∙ ap (λ (b : Bool). cond b (Refused ShortBuffer) (Text (length t))) fits),
-      x.holds ∙ ap (λ (b : Bool). cond b held (sets held 0 t)) fits,
-    )
-
-same_by : (t held after : List ℕ) (why : Refusal) (short : Bool) → is_short t (length held) ≡ short → Fitted t held (Refused why) after → after ≡ held
-same_by t held after why true q x = x.holds ∙ ap (λ (b : Bool). cond b held (sets held 0 t)) q
-same_by t held after why false q x = text_not_refused (length t) why (sym (x.answered ∙ ap (λ (b : Bool). cond b (Refused ShortBuffer) (Text (length t))) q))
+    decided (is_short t (length held))
+    (λ s. let e : Ok n ≡ fitted t (length held) = x.answered in let h = rw s at e in absurd (cc))
+    (λ s. let e : Ok n ≡ fitted t (length held) = x.answered in let h = rw s at e in (s, cc, x.holds ∙ ap (λ (b : Bool). cond b held (sets held 0 t)) s))
 
 -- a refusal leaves the buffer as it came
-pub refused_same : (t held after : List ℕ) (why : Refusal) → Fitted t held (Refused why) after → after ≡ held
-refused_same t held after why x = same_by t held after why (is_short t (length held)) refl x
+pub refused_same : (t held after : List ℕ) (why : Refusal) → Fitted t held (Err why) after → after ≡ held
+refused_same t held after why x =
+    decided (is_short t (length held))
+    (λ s. x.holds ∙ ap (λ (b : Bool). cond b held (sets held 0 t)) s)
+    (λ s. let e : Err why ≡ fitted t (length held) = x.answered in let h = rw s at e in absurd (cc))
 
 -- a text stands at the buffer's start, and past it nothing changes
-pub text_stands : (t held after : List ℕ) (n : ℕ) → Fitted t held (Text n) after → (n ≡ length t) × (after ≡ t ++ drop n held)
+pub text_stands : (t held after : List ℕ) (n : ℕ) → Fitted t held (Ok n) after → (n ≡ length t) × (after ≡ t ++ drop n held)
 text_stands t held after n x =
     let all = text_told t held after n x in
     let fits = ltb-false (length held) (length t) all.0 in (

@@ -4,8 +4,8 @@ use mathlib.Core.Path.{◌≡◌, refl, ap, sym, ◌∙◌}
 use mathlib.Core.List.{List, [], ◌∷◌, reverse, reverse_aux, reverse-reverse}
 use native.Mathlib.Nat.{pow-suc}
 use native.Mathlib.Omega.{arith}
-use lib.ListN.{length, length-reverse}
-use Rattle.words.specs.Words.{from_least, least_first, word_of, bytes_of, Bytes}
+use lib.ListN.{length, get_or, length-reverse}
+use Rattle.words.specs.Words.{from_least, least_first, word_of, bytes_of, Bytes, part}
 use Rattle.words.specs.declared.Order.{Order}
 use Rattle.words.specs.declared.Order.TheVariants.{Big, Little}
 
@@ -43,3 +43,16 @@ bytes_word Big bs h =
     ap (λ (w : ℕ). reverse (least_first w (from_least (reverse bs)))) (sym (length-reverse bs))
     ∙ ap reverse (first_back (reverse bs) (bytes_turned bs [] h tt))
     ∙ reverse-reverse bs
+
+-- ---- part
+
+-- a row that has the bytes from a place on is the part there
+pub part_read : (width : ℕ) (bs bytes : List ℕ) (place : ℕ) → length bs ≡ width → ((k : ℕ) → k < width → get_or bs k 0 ≡ get_or bytes (place + k) 0) → bs ≡ part bytes place width
+part_read zero [] bytes place e h = refl
+part_read zero (b ∷ bs) bytes place e h = absurd (omega arith)
+part_read (suc width) [] bytes place e h = absurd (omega arith)
+part_read (suc width) (b ∷ bs) bytes place e h =
+    let here : place + 0 ≡ place = omega arith in
+    let first : b ≡ get_or bytes place 0 = h 0 (omega arith) ∙ ap (λ (p : ℕ). get_or bytes p 0) here in
+    let rest : bs ≡ part bytes (place + 1) width = part_read width bs bytes (place + 1) (omega arith) (λ k l. let on : place + suc k ≡ place + 1 + k = omega arith in h (suc k) (omega arith) ∙ ap (λ (p : ℕ). get_or bytes p 0) on) in
+    rw (first, rest) refl

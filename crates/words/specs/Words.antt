@@ -4,7 +4,7 @@
 --     Little  34 12    is 0x1234
 --
 -- Taking a number apart into a row of a given width and putting it together again are inverse (`proofs/Words`).
-use Rattle.std.specs.Prelude.{ℕ, zero, suc, ◌+◌, ◌*◌, ◌/◌, ◌%◌, ◌<◌, List, [], ◌∷◌, reverse}
+use Rattle.std.specs.Prelude.{ℕ, zero, suc, ◌+◌, ◌*◌, ◌/◌, ◌%◌, ◌<◌, List, [], ◌∷◌, reverse, get_or}
 use Rattle.words.specs.declared.Order.{Order}
 use Rattle.words.specs.declared.Order.TheVariants.{Big, Little}
 
@@ -32,3 +32,8 @@ bytes_of Big width n = reverse (least_first width n)
 abbrev pub Bytes : List ℕ → Type 0
 Bytes [] = Unit
 Bytes (b ∷ bs) = (b < 256) × Bytes bs
+
+-- the bytes from a place on, as many as the width says
+abbrev pub part : List ℕ → ℕ → ℕ → List ℕ
+part bytes place zero = []
+part bytes place (suc width) = get_or bytes place 0 ∷ part bytes (place + 1) width

@@ -1,6 +1,6 @@
--- `sheet_cases::settings` meets its contract: one setting after another. Assumes nothing.
+-- One setting after another. Assumes nothing.
 use Rattle.show.proofs.Adding.{and}
 use Rattle.sheet_cases.proofs.settings.Goals as goal
 
 pub returns : goal.returns
-returns c = and c.text.ensures (and c.setting.ensures (and c.setting-ids.ensures (and c.setting-2.ensures (and c.setting-rates.ensures (and c.setting-3.ensures (and c.setting-4.ensures c.ended.ensures))))))
+returns c = and c.text.ensures (and c.setting.ensures (and c.setting-2.ensures (and c.setting-3.ensures (and c.setting-4.ensures (and c.setting-5.ensures (and c.setting-6.ensures c.end.ensures))))))

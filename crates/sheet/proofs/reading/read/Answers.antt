@@ -1,12 +1,8 @@
 -- `sheet::reading::read` meets its contract: the settings, or 11. Assumes nothing.
-use mathlib.Core.Path.{refl, subst}
-use Rattle.sheet.specs.declared.reading.Judged.{Judged}
-use Rattle.sheet.specs.Sheet.{Judges}
-use Rattle.sheet.proofs.Sheets.{sheet_not_wrong}
+use Rattle.std.proofs.Common.{rules, ◌≡◌, Ok, Err, MatchResult}
+use Rattle.refusal.specs.declared.Refusal.TheVariants.{WrongSheet}
+use Rattle.sheet.proofs.Sheets.{read_judged}
 use Rattle.sheet.proofs.reading.read.Goals as goal
 
-pub returns-in-Sheet : goal.returns-in-Sheet
-returns-in-Sheet c = subst (λ (j : Judged). Judges c.args.s.now j) c.in-Sheet.is c.judge-judged.ensures
-
-pub returns-in-Wrong : goal.returns-in-Wrong
-returns-in-Wrong c = (refl, λ k x. sheet_not_wrong c.args.s.now k _ x (subst (λ (j : Judged). Judges c.args.s.now j) c.in-Wrong.is c.judge-judged.ensures))
+pub returns : goal.returns
+returns c = read_judged c.args.s.now c.judge.result c.map_err.result c.judge.ensures (let answer : MatchResult c.judge.result (λ k. c.map_err.result ≡ Ok k) (λ _. c.map_err.result ≡ Err WrongSheet) = search rules in answer)

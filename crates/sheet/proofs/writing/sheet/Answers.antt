@@ -1,7 +1,15 @@
--- `sheet::writing::sheet` meets its contract: one line after another. Assumes nothing.
+-- `sheet::writing::sheet` meets its contract: the lines so far, one after another. Assumes nothing.
+use Rattle.std.proofs.Common.{ap, ◌∙◌, ◌++◌, ℕ, take, get_or}
+use Rattle.maintenance_pages.specs.Settings.{in_code_order}
+use Rattle.maintenance_pages.specs.declared.setting.Setting.TheVariants.{ReceiveId}
 use Rattle.text.proofs.Put.{then, put_as}
-use Rattle.sheet.proofs.Sheets.{lines_joined}
+use Rattle.sheet_line.specs.Lines.{line_text}
+use Rattle.std.specs.List.{concat}
+use Rattle.sheet.specs.Sheet.{lines_of}
+use Rattle.sheet.proofs.Judging.{line_after}
 use Rattle.sheet.proofs.writing.sheet.Goals as goal
 
-pub returns : goal.returns
-returns c = put_as (lines_joined c.args.k) (then c.well_formed.1.0.0 (then c.well_formed.1.0.0 (then c.well_formed.1.0.0 (then c.well_formed.1.0.0 (then c.well_formed.1.0.0 c.line-a.ensures c.line-b.ensures) c.line-c.ensures) c.line-d.ensures) c.line-e.ensures) c.line.ensures)
+pub loop-setting-preserved : goal.loop-setting-preserved
+loop-setting-preserved c =
+    put_as (ap (λ (v : ℕ). concat (take c.loop-setting.setting-index (lines_of c.args.k)) ++ line_text (get_or in_code_order c.loop-setting.setting-index ReceiveId) v) c.value_of.ensures ∙ line_after c.loop-setting.setting-index c.args.k c.loop-setting-test.true)
+    (then c.well_formed.1.0.0 c.loop-setting.invariant c.line-end.ensures)

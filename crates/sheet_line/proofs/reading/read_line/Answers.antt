@@ -1,29 +1,42 @@
 -- `sheet_line::reading::read_line` meets its contract: the value that was found, written back and compared. Assumes nothing.
-use native.Mathlib.Omega.{arith}
-use mathlib.Core.Path.{refl, sym, ap, ◌∙◌}
-use mathlib.Core.Bool.{Bool, ◌&&◌}
+use Rattle.std.proofs.Common.{arith, sym, ◌∙◌, drop, refl, length-drop}
+use Rattle.std.proofs.lemmas.Option.{none-some}
 use lib.Seq.{length-take-le}
-use borrow.Author.Rules.{part_to_end}
-use Rattle.sheet_line.proofs.Places.{past_end, line_in_array, compared, place_after, right_line, wrong_line_lem}
+use Rattle.sheet_line.proofs.Places.{line_within, from_place, line_in_array, line_written, line_within_bytes, line_read, line_found}
+use Rattle.words.proofs.Tests.{false_true, and_left, and_right, and_true}
 use Rattle.sheet_line.proofs.reading.read_line.Goals as goal
 
-pub returns-then-s-at : goal.returns-then-s-at
-returns-then-s-at c = past_end c.args.setting c.args.s.now c.args.at c.least.result c.least.ensures c.if-s-at.true
+pub returns-in_err-rest : goal.returns-in_err-rest
+returns-in_err-rest c = rw c.from_residual.ensures (λ line x. let l = line_within c.args.setting line.value (drop c.args.at c.args.s.now) _ x.same in let past = c.in_err-rest.ensures.lookup in grind (arith, l, past, length-drop))
+
+pub returns-in_err-value : goal.returns-in_err-value
+returns-in_err-value c = rw c.from_residual-in_err-value.ensures (λ line x. let there = from_place c.args.s.now c.in_ok-rest.rest.now c.args.at c.args.at c.in_ok-rest.ensures.lookup.0.2 refl in none-some line.value (c.in_err-value.ensures line.value _ x.legal (there ∙ x.same)))
 
 pub slice_bounds-text-end : goal.slice_bounds-text-end
-slice_bounds-text-end c = line_in_array c.args.setting _ _ c.value_in-value.result c.line-n.result refl c.line-n.ensures
+slice_bounds-text-end c = line_in_array c.args.setting _ _ c.in_ok-value.value c.line-n.result refl c.line-n.ensures
 
-pub slice_bounds-begins-end : goal.slice_bounds-begins-end
-slice_bounds-begins-end c = sym (length-take-le c.line-n.result _ (line_in_array c.args.setting _ _ c.value_in-value.result c.line-n.result refl c.line-n.ensures))
-
-pub returns-then-right : goal.returns-then-right
-returns-then-right c = right_line c.args.setting c.args.s.now _ _ c.args.at c.value_in-value.result c.line-n.result c.begins-same.result (part_to_end c.args.s.now c.args.at) c.if-s-at.false (compared c.args.setting _ _ _ c.value_in-value.result c.line-n.result c.begins-same.result refl c.value_in-value.ensures c.line-n.ensures c.begins-same.ensures) (ap (λ (b : Bool). b && c.begins-same.result) (sym c.may_hold.ensures) ∙ c.if-right.true)
-
-pub returns : goal.returns
-returns c = wrong_line_lem c.args.setting c.args.s.now _ _ c.args.at c.value_in-value.result c.line-n.result c.begins-same.result (part_to_end c.args.s.now c.args.at) c.if-s-at.false (compared c.args.setting _ _ _ c.value_in-value.result c.line-n.result c.begins-same.result refl c.value_in-value.ensures c.line-n.ensures c.begins-same.ensures) c.least-2.result c.least-2.ensures (ap (λ (b : Bool). b && c.begins-same.result) (sym c.may_hold.ensures) ∙ c.if-right.false)
+pub slice_bounds-starts_with-end : goal.slice_bounds-starts_with-end
+slice_bounds-starts_with-end c = sym (length-take-le c.line-n.result _ (line_in_array c.args.setting _ _ c.in_ok-value.value c.line-n.result refl c.line-n.ensures))
 
 pub overflow_add-result : goal.overflow_add-result
 overflow_add-result c =
-    let w = place_after c.args.setting c.args.s.now _ _ c.args.at c.value_in-value.result c.line-n.result c.begins-same.result (part_to_end c.args.s.now c.args.at) c.if-s-at.false (compared c.args.setting _ _ _ c.value_in-value.result c.line-n.result c.begins-same.result refl c.value_in-value.ensures c.line-n.ensures c.begins-same.ensures) (ap (λ (b : Bool). b && c.begins-same.result) (sym c.may_hold.ensures) ∙ c.if-right.true) in
+    let there = from_place c.args.s.now c.in_ok-rest.rest.now c.args.at c.args.at c.in_ok-rest.ensures.lookup.0.2 refl in
+    let text = line_written c.args.setting _ _ c.in_ok-value.value c.line-n.result refl c.line-n.ensures in
+    let within = line_within_bytes c.args.setting c.args.s.now c.in_ok-rest.rest.now _ c.args.at c.in_ok-value.value c.line-n.result there text c.in_ok-rest.ensures.lookup.0.0 (sym c.starts_with-same.ensures.value ∙ and_right c.may_hold.result c.starts_with-same.result c.if-may_hold-same.true) in
     let g = c.well_formed.0.0 in
-    record { fits = omega (arith, g, w) }
+    record { fits = omega (arith, g, within) }
+
+pub returns-then-may_hold-same : goal.returns-then-may_hold-same
+returns-then-may_hold-same c =
+    let there = from_place c.args.s.now c.in_ok-rest.rest.now c.args.at c.args.at c.in_ok-rest.ensures.lookup.0.2 refl in
+    let text = line_written c.args.setting _ _ c.in_ok-value.value c.line-n.result refl c.line-n.ensures in
+    let legal = and_left c.may_hold.result c.starts_with-same.result c.if-may_hold-same.true in
+    let same = and_right c.may_hold.result c.starts_with-same.result c.if-may_hold-same.true in
+    line_read c.args.setting c.args.s.now c.in_ok-rest.rest.now _ c.args.at c.in_ok-value.value c.line-n.result there text c.in_ok-rest.ensures.lookup.0.0 (sym c.may_hold.ensures ∙ legal) (sym c.starts_with-same.ensures.value ∙ same)
+
+pub returns-else-may_hold-same : goal.returns-else-may_hold-same
+returns-else-may_hold-same c = λ line x.
+    (let there = from_place c.args.s.now c.in_ok-rest.rest.now c.args.at c.args.at c.in_ok-rest.ensures.lookup.0.2 refl in
+    let text = line_written c.args.setting _ _ c.in_ok-value.value c.line-n.result refl c.line-n.ensures in
+    let found = line_found c.args.setting c.args.s.now c.in_ok-rest.rest.now _ c.args.at c.in_ok-value.value c.line-n.result there text c.in_ok-value.ensures line x in
+    false_true (sym (and_true c.may_hold.result c.starts_with-same.result (c.may_hold.ensures ∙ found.0) (c.starts_with-same.ensures.value ∙ found.1)) ∙ c.if-may_hold-same.false))

@@ -1,2 +1,0 @@
--- The laws of choosing by the place of a setting.
-pub mod Chosen

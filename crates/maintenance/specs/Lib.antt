@@ -1,2 +1,0 @@
--- What only private contracts speak of.
-pub mod Places

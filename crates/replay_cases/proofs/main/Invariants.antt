@@ -1,8 +1,0 @@
--- `replay_cases::main` ends: the turns that are left fall. Assumes nothing.
-use Rattle.replay_cases.proofs.main.Given as goal
-
-abbrev pub invariant-loop-turns : goal.invariant-loop-turns
-invariant-loop-turns l = Unit
-
-abbrev pub decreases-loop-turns : goal.decreases-loop-turns
-decreases-loop-turns l = l.turns
