@@ -20,7 +20,7 @@ fn voltage_misfit(kind: Kind, z: i32) -> bool
 fn flags_misfit(kind: Kind, flags: u16) -> bool
     ensures { result ≡ flags_misfit kind flags }
 {
-    matches!(kind, Kind::Sim100) & (flags > 255)
+    (kind == Kind::Sim100) & (flags > 255)
 }
 
 // Refusal 6.

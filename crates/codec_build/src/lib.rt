@@ -1,5 +1,6 @@
 // Reports and requests built as frames. Any values are built or refused.
 //
+//     mux       the multiplexers
 //     listed    refusal 3: which reports and requests a device kind has
 //     fit       refusal 6: which values fit their fields
 //     body      the bytes
@@ -10,3 +11,4 @@ mod body;
 pub mod building;
 mod fit;
 mod listed;
+mod mux;

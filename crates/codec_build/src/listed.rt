@@ -4,6 +4,7 @@ ghost use Rattle.codec_pages.specs.Building.{unlisted};
 ghost use Rattle.codec_pages.specs.Requests.{unlisted_request};
 ghost use Rattle.codec_pages.specs.Table.{row_of, no_word};
 
+use crate::mux::{report_mux, request_mux};
 use codec_pages::report::Report;
 use codec_pages::request::Request;
 use codec_pages::rows::{Kind, Row};
@@ -20,10 +21,7 @@ fn is_unlisted(kind: Kind, mux: u8) -> bool
 fn no_word(kind: Kind, mux: u8) -> bool
     ensures { result ≡ no_word (row_of kind mux) }
 {
-    match row_of(kind, mux) {
-        Err(_) => true,
-        Ok(listed) => !matches!(listed.row, Row::Mux01To0B),
-    }
+    !row_of(kind, mux).is_ok_and(|listed| listed.row == Row::Mux01To0B)
 }
 
 // Refusal 3: the kind has no such report.
@@ -31,15 +29,8 @@ pub(crate) fn unlisted_report(kind: Kind, report: Report) -> bool
     ensures { result ≡ unlisted kind report }
 {
     match report {
-        Report::IsolationState(_) => is_unlisted(kind, 0xE0),
-        Report::Resistances(_) => is_unlisted(kind, 0xE1),
-        Report::Capacitances(_) => is_unlisted(kind, 0xE2),
-        Report::PoleVoltages(_) => is_unlisted(kind, 0xE3),
-        Report::BatteryVoltage(_) => is_unlisted(kind, 0xE4),
-        Report::Errors(_) => is_unlisted(kind, 0xE5),
         Report::Word(mux, _) => no_word(kind, mux),
-        Report::Temperature(_) => is_unlisted(kind, 0x80),
-        Report::WorkingVoltage(_) => is_unlisted(kind, 0xF0),
+        _ => is_unlisted(kind, report_mux(report)),
     }
 }
 
@@ -48,14 +39,7 @@ pub(crate) fn unlisted_request(kind: Kind, request: Request) -> bool
     ensures { result ≡ unlisted_request kind request }
 {
     match request {
-        Request::ReadIsolationState => is_unlisted(kind, 0xE0),
-        Request::ReadResistances => is_unlisted(kind, 0xE1),
-        Request::ReadCapacitances => is_unlisted(kind, 0xE2),
-        Request::ReadVoltages => is_unlisted(kind, 0xE3),
-        Request::ReadBattery => is_unlisted(kind, 0xE4),
-        Request::ReadErrorFlags => is_unlisted(kind, 0xE5),
         Request::ReadWord(mux) => no_word(kind, mux),
-        Request::ReadTemperature => is_unlisted(kind, 0x80),
-        Request::SetWorkingVoltage(_) => is_unlisted(kind, 0xF0),
+        _ => is_unlisted(kind, request_mux(request)),
     }
 }

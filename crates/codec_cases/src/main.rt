@@ -12,8 +12,8 @@ use codec_build::building::build;
 use codec_pages::report::Report;
 use codec_pages::request::Request;
 use codec_read::reading::read;
-use door::turn::{Answers, begin, next_if};
-use door::{LastWord, read_input};
+use door::LastWord;
+use door::turn::{Answers, next_if, read_first};
 use line::Show;
 use show::Line;
 use std::io::Stdin;
@@ -43,7 +43,7 @@ impl Answers for Questions {
     // A record is read and answered, up to one that asks nothing known.
     fn answer_next(&mut self) -> ControlFlow<LastWord> {
         let mut r = [0u8; 20];
-        begin(read_input(&mut self.stdin, &mut r), 20)?;
+        read_first(&mut self.stdin, &mut r)?;
         let Some(question) = Question::of(r) else {
             return ControlFlow::Break(LastWord::Refused);
         };

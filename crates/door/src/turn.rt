@@ -1,9 +1,11 @@
 // Programs that answer a row of questions: whether there is a next one, and with which word they end where there is
 // none.
-ghost use Rattle.std.specs.Prelude.{◌≡◌};
+ghost use Rattle.std.specs.Prelude.{◌≡◌, length};
+ghost use Rattle.door.specs.Reads.{ReadsThen};
 ghost use Rattle.door.specs.Turns.{begun, gone_on, next_if};
 
-use crate::{LastWord, ReadFailed, WriteFailed};
+use crate::{LastWord, ReadFailed, WriteFailed, read_input};
+use std::io::Read;
 use std::ops::ControlFlow;
 
 // A program that answers a row of questions.
@@ -42,6 +44,22 @@ pub fn go_on(input: Result<usize, ReadFailed>, whole: usize) -> ControlFlow<Last
         Ok(_) => ControlFlow::Continue(()),
         Err(_) => ControlFlow::Break(LastWord::Unread),
     }
+}
+
+// Reads the first bytes of a question, as many as the buffer has.
+pub fn read_first<R: Read>(from: &mut R, buf: &mut [u8]) -> ControlFlow<LastWord>
+    ensures { ReadsThen begun (length buf.old) (R.remaining from.old) (R.remaining from.new) buf.new result }
+{
+    let whole = buf.len();
+    begin(read_input(from, buf), whole)
+}
+
+// Reads further bytes of the same question, as many as the buffer has.
+pub fn read_further<R: Read>(from: &mut R, buf: &mut [u8]) -> ControlFlow<LastWord>
+    ensures { ReadsThen gone_on (length buf.old) (R.remaining from.old) (R.remaining from.new) buf.new result }
+{
+    let whole = buf.len();
+    go_on(read_input(from, buf), whole)
 }
 
 // After an answer: nothing follows one that could not be written.

@@ -1,20 +1,19 @@
 -- The answer and the buffer, for every answer of the check. Assumes nothing.
 use Prim.Native.Nat.{ℕ, ◌+◌, ◌*◌, ◌≤◌, ◌<◌}
 use native.Mathlib.Omega.{arith}
-use mathlib.Core.Path.{◌≡◌, refl, sym, subst}
-use mathlib.Core.Bool.{true, false}
+use mathlib.Core.Path.{◌≡◌, refl}
+use mathlib.Core.Bool.{false}
 use mathlib.Core.List.{List}
 use lib.ListN.{length, get_or}
 use borrow.Author.Tests.{le-ltb}
 use Rattle.std.specs.Prelude.{Result, Ok, Err}
 use Rattle.refusal.specs.declared.Refusal.{Refusal}
-use Rattle.refusal.specs.declared.Refusal.TheVariants.{ShortBuffer}
 use Rattle.std.specs.declared.result.Result.{Result}
 use Rattle.std.specs.declared.result.Result.TheVariants.{Ok, Err}
-use Rattle.text.specs.Put.{Put, place, last_place}
+use Rattle.text.specs.Put.{place, last_place}
 use Rattle.text.specs.Written.{Fitted}
 use Rattle.text.proofs.Put.{place_within}
-use Rattle.text.proofs.Fitted.{short_refused as too_short, text_written, refused_same as fitted-same}
+use Rattle.text.proofs.Fitted.{refused_same as fitted-same}
 use Rattle.bench_log.specs.Layout.{count_of}
 use Rattle.bench_log.specs.Check.{checked}
 use Rattle.bench_log.proofs.Parts.{laid_out}
@@ -37,20 +36,6 @@ whole_length s bytes a = place_within (length (listing_of s)) (within s bytes a)
 -- a buffer of 46 bytes for each record and 57 is never short
 pub room_enough : (s : List ℕ) → ((i : ℕ) → get_or s i 0 < 256) → checked s ≡ Ok tt → (room : ℕ) → 46 * count_of s + 57 ≤ room → is_short s room ≡ false
 room_enough s bytes a room h = let l = listing_length s bytes a in le-ltb room (length (listing_of s)) (omega (arith, l, h))
-
--- ---- the answer, and what the buffer holds
-
-pub log_refused : (s held : List ℕ) (why : Refusal) → checked s ≡ Err why → ListingAnswered s held (Err why) held
-log_refused s held why a = subst (λ (x : Result Unit Refusal). AnsweredBy x s held (Err why) held) (sym a) (record { answered = refl; holds = refl })
-
-fitted_answered : (s held after : List ℕ) (r : Result ℕ Refusal) → checked s ≡ Ok tt → Fitted (listing_of s) held r after → ListingAnswered s held r after
-fitted_answered s held after r a x = subst (λ (y : Result Unit Refusal). AnsweredBy y s held r after) (sym a) x
-
-pub short_refused : (s held : List ℕ) → checked s ≡ Ok tt → is_short s (length held) ≡ true → ListingAnswered s held (Err ShortBuffer) held
-short_refused s held a t = fitted_answered s held held (Err ShortBuffer) a (too_short (listing_of s) held t)
-
-pub listed : (s held after : List ℕ) (r : ℕ) → ((i : ℕ) → get_or s i 0 < 256) → checked s ≡ Ok tt → is_short s (length held) ≡ false → Put held 0 (listing_of s) r after → ListingAnswered s held (Ok r) after
-listed s held after r bytes a t p = fitted_answered s held after (Ok r) a (text_written (listing_of s) held after r (within s bytes a) t p)
 
 -- ---- an answer that is had
 

@@ -29,25 +29,30 @@ const CONSTANTS: [u8; 7] = [0x53, 0x4E, 0x44, 0x53, 0x49, 0x4D, 0x42];
 
 // ---- what a frame says
 
-// Bytes past the length are no part of the frame.
+// Bytes past the length are no part of the frame. Writes and reads are asked for first, since most frames are one or the other.
 #[tactic(auto, unfolding(maintenance_pages::specs::Messages::message))]
 pub fn message_of(f: Frame) -> Message
     ensures { result ≡ message f }
 {
     let bytes = f.bytes;
+    if f.length == 5 {
+        let value = word_at(Order::Big, &bytes, 1);
+        return setting_of(bytes[0]).map_or(
+            Message::Other,
+            |setting| Message::Write(setting, value),
+        );
+    }
+    if f.length == 1 && !(0x08..=0x0B).contains(&bytes[0]) {
+        return setting_of(bytes[0]).map_or(Message::Other, Message::Read);
+    }
     match (f.length, bytes) {
-        (5, [code, ..]) => {
-            let value = word_at(Order::Big, &bytes, 1);
-            setting_of(code).map_or(Message::Other, |setting| Message::Write(setting, value))
-        }
+        (3, [0x14, 0x28, 0xD5, ..]) => Message::Unlock,
+        (3, [0x14, 0x9A, 0x28, ..]) => Message::Commit,
+        (8, [0x14, ..]) => Message::Answer,
         (1 | 3, [0x08, ..]) => Message::SerialRequest(SerialWord::Last),
         (1 | 3, [0x09, ..]) => Message::SerialRequest(SerialWord::Third),
         (1 | 3, [0x0A, ..]) => Message::SerialRequest(SerialWord::Second),
         (1 | 3, [0x0B, ..]) => Message::SerialRequest(SerialWord::First),
-        (1, [code, ..]) => setting_of(code).map_or(Message::Other, Message::Read),
-        (3, [0x14, 0x28, 0xD5, ..]) => Message::Unlock,
-        (3, [0x14, 0x9A, 0x28, ..]) => Message::Commit,
-        (8, [0x14, ..]) => Message::Answer,
         _ => Message::Other,
     }
 }

@@ -1,6 +1,8 @@
 // The monitor on the bench: with the last accepted stamp it gives the refusals. A refused event leaves the bench as it was; a refused power-on
 // gives none.
-ghost use Rattle.std.specs.Prelude.{◌≡◌};
+ghost use Rattle.std.specs.Prelude.{◌≡◌, cond, Ok, Err};
+ghost use Rattle.refusal.specs.declared.Refusal.TheVariants.{EarlyStamp};
+ghost use Rattle.time.specs.Times.{earlier};
 ghost use Rattle.rules.specs.Events.{frame_event, reset_event};
 ghost use Rattle.monitor.specs.Bench.{powered_on, outcome_of, uptime_asked};
 
@@ -45,6 +47,16 @@ impl Bench {
         self.monitor.stored
     }
 
+    // Refusal 7.
+    fn in_order(&self, at: Stamp) -> Result<(), Refusal>
+        ensures { result ≡ cond (earlier at self.now.last) (Err EarlyStamp) (Ok tt) }
+    {
+        if at < self.last {
+            return Err(Refusal::EarlyStamp);
+        }
+        Ok(())
+    }
+
     // ---- events: the reply, if there is one
 
     fn take(&mut self, at: Stamp, turn: Turn) -> Option<Frame>
@@ -70,9 +82,7 @@ impl Bench {
         if over_limits(f) {
             return Err(Refusal::OverLimits);
         }
-        if at < self.last {
-            return Err(Refusal::EarlyStamp);
-        }
+        self.in_order(at)?;
         let turn = unit::frame(self.monitor, at, storing, f);
         Ok(self.take(at, turn))
     }
@@ -81,9 +91,7 @@ impl Bench {
         ensures answer { result ≡ (outcome_of (reset_event at) self.old).answer }
         ensures bench { self.new ≡ (outcome_of (reset_event at) self.old).bench }
     {
-        if at < self.last {
-            return Err(Refusal::EarlyStamp);
-        }
+        self.in_order(at)?;
         let turn = unit::reset(self.monitor, at);
         Ok(self.take(at, turn))
     }
@@ -93,9 +101,7 @@ impl Bench {
     pub fn uptime(&self, at: Stamp) -> Result<Ticks, Refusal>
         ensures { result ≡ uptime_asked at self.now }
     {
-        if at < self.last {
-            return Err(Refusal::EarlyStamp);
-        }
+        self.in_order(at)?;
         Ok(unit::uptime(self.monitor, at))
     }
 }

@@ -10,8 +10,8 @@ ghost use Rattle.monitor_cases.specs.Answers.{question_line, event_line, second,
 mod line;
 mod record;
 
-use door::turn::{Answers, begin, go_on, next_if};
-use door::{LastWord, read_input};
+use door::LastWord;
+use door::turn::{Answers, next_if, read_first, read_further};
 use maintenance::message::answer_to;
 use monitor::bench::Bench;
 use record::{Event, Question};
@@ -82,7 +82,7 @@ impl Records {
             Question::Uptime(at) => uptime_question(self.bench, line, at),
             Question::PowerOn(first) => {
                 let mut rest = [0u8; 28];
-                go_on(read_input(&mut self.stdin, &mut rest), 28)?;
+                read_further(&mut self.stdin, &mut rest)?;
                 power_on(&mut self.bench, line, record::powered_on(first, rest));
             }
             Question::Challenge(challenge) => line::answer(line, answer_to(challenge)),
@@ -95,7 +95,7 @@ impl Answers for Records {
     // A record is read and answered, up to one that asks nothing known.
     fn answer_next(&mut self) -> ControlFlow<LastWord> {
         let mut r = [0u8; 20];
-        begin(read_input(&mut self.stdin, &mut r), 20)?;
+        read_first(&mut self.stdin, &mut r)?;
         let Some(question) = Question::of(r) else {
             return ControlFlow::Break(LastWord::Refused);
         };

@@ -2,12 +2,12 @@
 // `refused N`.
 #![tactic(auto)]
 
-use door::turn::{Answers, begin, go_on, next_if};
-use door::{LastWord, WriteFailed, read_input, write_first};
+use door::turn::{Answers, next_if, read_first, read_further};
+use door::{LastWord, WriteFailed, write_first};
 use listing::listing::listing;
 use std::io::Stdin;
 use std::ops::ControlFlow;
-use text::written::refused_line;
+use text::Text;
 use words::Order;
 use words::word::word_at;
 
@@ -17,9 +17,11 @@ fn answer(log: &[u8], text: &mut [u8]) -> Result<(), WriteFailed> {
     match listed {
         Ok(n) => write_first(text, n),
         Err(why) => {
-            let mut line = [0; 16];
-            let n = refused_line(&mut line, why);
-            write_first(&line, n)
+            let mut bytes = [0; 16];
+            let mut line = Text::new(&mut bytes, 0);
+            line.refused_line(why);
+            let n = line.end();
+            write_first(&bytes, n)
         }
     }
 }
@@ -36,12 +38,12 @@ impl Answers for Cases {
     // A case is read and answered, up to one that asks nothing known.
     fn answer_next(&mut self) -> ControlFlow<LastWord> {
         let mut head = [0; 8];
-        begin(read_input(&mut self.stdin, &mut head), 8)?;
+        read_first(&mut self.stdin, &mut head)?;
         let length = word_at::<u32, 4>(Order::Big, &head, 0) as usize;
         let room = word_at::<u32, 4>(Order::Big, &head, 4) as usize;
         match (self.log.get_mut(..length), self.text.get_mut(..room)) {
             (Some(log), Some(text)) => {
-                go_on(read_input(&mut self.stdin, log), length)?;
+                read_further(&mut self.stdin, log)?;
                 next_if(answer(log, text))
             }
             _ => ControlFlow::Break(LastWord::Refused),

@@ -1,23 +1,19 @@
 -- The text of a sheet: its lines one after another, and how long it is. Assumes nothing.
-use Prim.Native.Nat.{ℕ, ◌≤◌, ◌<◌}
+use Prim.Native.Nat.{ℕ, ◌≤◌}
 use native.Mathlib.Omega.{arith}
 use mathlib.Core.Path.{◌≡◌, refl, sym, ap, subst, ◌∙◌}
-use mathlib.Core.Bool.{Bool, true, false}
+use mathlib.Core.Bool.{true}
 use mathlib.Core.List.{List, [], ◌++◌}
 use lib.ListN.{length, take, drop, length-append, drop_of_length-le, take-append-drop}
-use borrow.Author.Tests.{le-ltb, lt-ltb}
 use Rattle.std.proofs.lemmas.List.Folds.{concat-append}
 use Rattle.std.specs.Prelude.{Result, Ok, Err, MatchResult}
 use Rattle.refusal.specs.declared.Refusal.{Refusal}
-use Rattle.refusal.specs.declared.Refusal.TheVariants.{WrongSheet, ShortBuffer}
+use Rattle.refusal.specs.declared.Refusal.TheVariants.{WrongSheet}
 use Rattle.maintenance_pages.specs.declared.setting.Setting.TheVariants.{ReceiveId, TransmitId, Speed, Voltage, WarningLevel, FaultLevel}
 use Rattle.maintenance_pages.specs.declared.setting.Settings.{Settings}
-use Rattle.text.specs.Put.{Put}
-use Rattle.text.proofs.Put.{put_as}
-use Rattle.text.proofs.Fitted.{short_refused, text_written, text_at_start}
 use Rattle.sheet_line.specs.Lines.{line_text}
 use Rattle.std.specs.List.{concat}
-use Rattle.sheet.specs.Sheet.{lines_of, sheet_text, is_legal, IsSheet, GoesOn, FirstWrong, Judges, Reads, WrittenBy, SheetWritten}
+use Rattle.sheet.specs.Sheet.{lines_of, sheet_text, is_legal, IsSheet, GoesOn, FirstWrong, Judges, Reads}
 use Rattle.sheet.specs.declared.reading.WrongLine.{WrongLine}
 use Rattle.sheet_line.proofs.Promise.{promise as lines}
 use Rattle.sheet.proofs.Judging.{legal_parts}
@@ -66,24 +62,3 @@ sheet_length k legal =
     let e' = length-append (line_text WarningLevel k.warning) (concat (drop 5 (lines_of k))) in
     let f' = length-append (line_text FaultLevel k.fault) [] in
     omega (arith, a, b, c, d, e, f, a', b', c', d', e', f')
-
--- ---- settings written
-
-pub illegal_refused : (k : Settings) (held : List ℕ) → is_legal k ≡ false → SheetWritten k held (Err WrongSheet) held
-illegal_refused k held l = subst (λ (b : Bool). WrittenBy b k held (Err WrongSheet) held) (sym l) (record { answered = refl; holds = refl })
-
--- the whole text stands at the start of an array of 84 bytes
-pub whole_there : (k : Settings) (d e : List ℕ) (n : ℕ) → is_legal k ≡ true → length d ≡ 84 → Put d 0 (sheet_text k) n e → (n ≡ length (sheet_text k)) × (take n e ≡ sheet_text k)
-whole_there k d e n l long p = let m = sheet_length k l in text_at_start d e (sheet_text k) n (omega (arith, m, long)) (omega (arith, long)) p
-
-pub short_room : (k : Settings) (d e held : List ℕ) (n : ℕ) → is_legal k ≡ true → length d ≡ 84 → Put d 0 (sheet_text k) n e → length held < n → SheetWritten k held (Err ShortBuffer) held
-short_room k d e held n l long p h =
-    subst (λ (b : Bool). WrittenBy b k held (Err ShortBuffer) held) (sym l)
-    (short_refused (sheet_text k) held (lt-ltb (length held) (length (sheet_text k)) (let q = (whole_there k d e n l long p).0 in omega (arith, q, h))))
-
-pub written : (k : Settings) (d e held after : List ℕ) (n r : ℕ) → is_legal k ≡ true → length d ≡ 84 → Put d 0 (sheet_text k) n e → n ≤ length held → Put held 0 (take n e) r after → SheetWritten k held (Ok r) after
-written k d e held after n r l long p h put =
-    let both = whole_there k d e n l long p in
-    let m = sheet_length k l in
-    subst (λ (b : Bool). WrittenBy b k held (Ok r) after) (sym l)
-    (text_written (sheet_text k) held after r (omega (arith, m)) (le-ltb (length held) (length (sheet_text k)) (let q = both.0 in omega (arith, q, h))) (put_as both.1 put))

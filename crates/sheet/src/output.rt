@@ -1,12 +1,13 @@
 // What the program writes: the sheet, or which line is wrong and what was expected there.
 ghost use Rattle.std.specs.Prelude.{◌≡◌};
-ghost use Rattle.text.specs.Put.{Put};
-ghost use Rattle.sheet.specs.Output.{expected_at, expected_line, Outputs};
+ghost use Rattle.text.specs.Puts.{Puts};
+ghost use Rattle.sheet.specs.Output.{expected_at, expected_line, output_by, Outputs};
 
 use crate::reading::{WrongLine, judge};
 use crate::writing::sheet;
+use maintenance_pages::setting::Settings;
 use refusal::Refusal;
-use text::written::refused_line;
+use text::Text;
 
 // What was expected at a line.
 fn expected(line: WrongLine) -> &'static [u8]
@@ -26,25 +27,34 @@ fn expected(line: WrongLine) -> &'static [u8]
     }
 }
 
-fn expected_line(out: &mut [u8], at: usize, line: WrongLine) -> usize
-    ensures { Put out.old at (expected_line line.0) result out.new }
+fn expected_line(text: &mut Text, line: WrongLine)
+    ensures { Puts text.old (expected_line line.0) text.new }
 {
-    let a = text::bytes(out, at, b"line ");
-    let b = text::decimal(out, a, line.0 as u32);
-    let c = text::bytes(out, b, b": expected ");
-    let d = text::bytes(out, c, expected(line));
-    text::byte(out, d, b'\n')
+    text.bytes(b"line ");
+    text.decimal(line.0 as u32);
+    text.bytes(b": expected ");
+    text.bytes(expected(line));
+    text.byte(b'\n');
 }
 
-// The sheet written back, or the line of the refusal and the line that is wrong, from the start of a buffer.
+// The sheet, or the line of the refusal and what was expected at the line that is wrong.
+fn judged_text(text: &mut Text, judged: Result<Settings, WrongLine>)
+    ensures { Puts text.old (output_by judged) text.new }
+{
+    match judged {
+        Ok(k) => sheet(text, k),
+        Err(line) => {
+            text.refused_line(Refusal::WrongSheet);
+            expected_line(text, line);
+        }
+    }
+}
+
+// The sheet written back, or what is wrong with it, from the start of a buffer.
 pub fn output(s: &[u8], out: &mut [u8]) -> usize
     ensures { Outputs s.now out.old result out.new }
 {
-    match judge(s) {
-        Ok(k) => sheet(k, out),
-        Err(line) => {
-            let a = refused_line(out, Refusal::WrongSheet);
-            expected_line(out, a, line)
-        }
-    }
+    let mut text = Text::new(out, 0);
+    judged_text(&mut text, judge(s));
+    text.end()
 }

@@ -1,12 +1,14 @@
 // Settings written into a lent buffer.
-ghost use Rattle.std.specs.Prelude.{◌≡◌};
-ghost use Rattle.text.specs.Put.{Put};
+ghost use Rattle.std.specs.Prelude.{◌≡◌, length};
+ghost use Rattle.text.specs.Put.{place};
+ghost use Rattle.text.specs.Puts.{Puts};
 ghost use Rattle.sheet.specs.Sheet.{is_legal, sheet_text, SheetWritten};
 
 use maintenance::setting::value_of;
 use maintenance_pages::setting::{Setting, Settings};
 use refusal::Refusal;
 use sheet_line::line::{line, may_hold};
+use text::Text;
 
 // The settings in the order of their lines.
 const LINES: [Setting; 6] = [
@@ -27,15 +29,22 @@ pub fn is_legal(k: Settings) -> bool
         .all(|&setting| may_hold(setting, value_of(k, setting)))
 }
 
-// The text of a sheet from the start of a buffer.
-pub(crate) fn sheet(k: Settings, out: &mut [u8]) -> usize
-    ensures { Put out.old 0 (sheet_text k) result out.new }
+// The text of a sheet.
+pub(crate) fn sheet(text: &mut Text, k: Settings)
+    ensures { Puts text.old (sheet_text k) text.new }
 {
-    let mut end = 0;
     for setting in LINES {
-        end = line(out, end, setting, value_of(k, setting));
+        line(text, setting, value_of(k, setting));
     }
-    end
+}
+
+// How long the sheet is, counted by putting it into a buffer that has no room.
+fn measured(k: Settings) -> usize
+    ensures { result ≡ place (length (sheet_text k)) }
+{
+    let mut text = Text::new(&mut [], 0);
+    sheet(&mut text, k);
+    text.end()
 }
 
 // The settings as a sheet in a lent buffer: 11 for values that no sheet may hold, then 12 where the buffer is shorter than the text.
@@ -45,10 +54,10 @@ pub fn write(k: Settings, out: &mut [u8]) -> Result<usize, Refusal>
     if !is_legal(k) {
         return Err(Refusal::WrongSheet);
     }
-    let mut longest = [0; 84];
-    let n = sheet(k, &mut longest);
-    if out.len() < n {
+    if out.len() < measured(k) {
         return Err(Refusal::ShortBuffer);
     }
-    Ok(text::bytes(out, 0, &longest[..n]))
+    let mut text = Text::new(out, 0);
+    sheet(&mut text, k);
+    Ok(text.end())
 }

@@ -5,8 +5,8 @@ ghost use Rattle.std.specs.Prelude.{◌≡◌};
 ghost use Rattle.show.specs.Lines.{Adds};
 ghost use Rattle.sheet_cases.specs.Lines.{setting_text, sheet_line, wrong_text, WrongAnswer, SheetAnswer, after_buffer, settings_asked};
 
-use door::turn::{Answers, begin, go_on, next_if};
-use door::{LastWord, WriteFailed, read_input, write_first};
+use door::turn::{Answers, next_if, read_first, read_further};
+use door::{LastWord, WriteFailed, write_first};
 use maintenance_pages::setting::Settings;
 use refusal::Refusal;
 use sheet::reading::{WrongLine, judge, read};
@@ -118,12 +118,12 @@ impl Cases {
     // Bytes to be read are answered.
     fn answer_bytes(&mut self) -> ControlFlow<LastWord> {
         let mut head = [0; 2];
-        go_on(read_input(&mut self.stdin, &mut head), 2)?;
+        read_further(&mut self.stdin, &mut head)?;
         let length = usize::from(u16::from_bytes(Order::Big, head));
         let Some(s) = self.longest.get_mut(..length) else {
             return ControlFlow::Break(LastWord::Refused);
         };
-        go_on(read_input(&mut self.stdin, s), length)?;
+        read_further(&mut self.stdin, s)?;
         let mut line = Line::empty();
         answer_read(&mut line, s);
         next_if(line.write())
@@ -132,7 +132,7 @@ impl Cases {
     // Settings to be written are answered. A buffer of full stops is lent.
     fn answer_settings(&mut self) -> ControlFlow<LastWord> {
         let mut r = [0; 26];
-        go_on(read_input(&mut self.stdin, &mut r), 26)?;
+        read_further(&mut self.stdin, &mut r)?;
         let room = usize::from(word_at::<u16, 2>(Order::Big, &r, 24));
         let mut stops = [46; 4095];
         let Some(out) = stops.get_mut(..room) else {
@@ -146,7 +146,7 @@ impl Answers for Cases {
     // A case is read and answered, up to one that asks nothing known.
     fn answer_next(&mut self) -> ControlFlow<LastWord> {
         let mut kind = [0; 1];
-        begin(read_input(&mut self.stdin, &mut kind), 1)?;
+        read_first(&mut self.stdin, &mut kind)?;
         match kind[0] {
             0 => self.answer_bytes(),
             1 => self.answer_settings(),

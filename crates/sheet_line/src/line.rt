@@ -1,10 +1,11 @@
 // One line of a sheet: the name of a setting, one space, its value, a line feed.
 ghost use Rattle.std.specs.Prelude.{◌≡◌};
-ghost use Rattle.text.specs.Put.{Put};
+ghost use Rattle.text.specs.Puts.{Puts};
 ghost use Rattle.sheet_line.specs.Lines.{name_of, figures_of, line_text, may_hold};
 
 use maintenance::setting::{is_legal, speed_number};
 use maintenance_pages::setting::Setting;
+use text::Text;
 
 // Whether a sheet may hold the value.
 pub fn may_hold(setting: Setting, value: u32) -> bool
@@ -29,21 +30,21 @@ pub(crate) fn name(setting: Setting) -> &'static [u8]
     }
 }
 
-fn figures(out: &mut [u8], at: usize, setting: Setting, value: u32) -> usize
-    ensures { Put out.old at (figures_of setting value) result out.new }
+fn figures(text: &mut Text, setting: Setting, value: u32)
+    ensures { Puts text.old (figures_of setting value) text.new }
 {
     match setting {
-        Setting::ReceiveId | Setting::TransmitId => text::hex8(out, at, value),
-        Setting::Speed => text::decimal(out, at, speed_number(value)),
-        _ => text::decimal(out, at, value),
+        Setting::ReceiveId | Setting::TransmitId => text.hex8(value),
+        Setting::Speed => text.decimal(speed_number(value)),
+        _ => text.decimal(value),
     }
 }
 
-pub fn line(out: &mut [u8], at: usize, setting: Setting, value: u32) -> usize
-    ensures { Put out.old at (line_text setting value) result out.new }
+pub fn line(text: &mut Text, setting: Setting, value: u32)
+    ensures { Puts text.old (line_text setting value) text.new }
 {
-    let a = text::bytes(out, at, name(setting));
-    let b = text::byte(out, a, b' ');
-    let c = figures(out, b, setting, value);
-    text::byte(out, c, b'\n')
+    text.bytes(name(setting));
+    text.byte(b' ');
+    figures(text, setting, value);
+    text.byte(b'\n');
 }

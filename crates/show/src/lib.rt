@@ -9,7 +9,7 @@ ghost use Rattle.show.specs.Lines.{Adds, line_feed, value_text, refused_text, id
 use codec_pages::frame::Frame;
 use door::{WriteFailed, write_first};
 use refusal::Refusal;
-use text::hex_figure;
+use text::{Text, hex_figure};
 
 // The bytes of the line and how many there are. None of the answers is longer than this; of one that was, no byte
 // is written.
@@ -33,34 +33,42 @@ impl Line {
     pub fn text(&mut self, s: &[u8])
         ensures { Adds self.old s.now self.new }
     {
-        self.n = text::bytes(&mut self.bytes, self.n, s);
+        let mut text = Text::new(&mut self.bytes, self.n);
+        text.bytes(s);
+        self.n = text.end();
     }
 
     pub fn byte(&mut self, b: u8)
         ensures { Adds self.old (b ∷ []) self.new }
     {
-        self.n = text::byte(&mut self.bytes, self.n, b);
+        self.text(&[b]);
     }
 
     // A number of 32 bits in eight digits.
     pub fn hex8(&mut self, word: u32)
         ensures { Adds self.old (hexadecimal 8 word) self.new }
     {
-        self.n = text::hex8(&mut self.bytes, self.n, word);
+        let mut text = Text::new(&mut self.bytes, self.n);
+        text.hex8(word);
+        self.n = text.end();
     }
 
     // A byte in two digits after one space.
     pub fn spaced(&mut self, b: u8)
         ensures { Adds self.old (spaced_text b) self.new }
     {
-        self.n = text::spaced_hex2(&mut self.bytes, self.n, b);
+        let mut text = Text::new(&mut self.bytes, self.n);
+        text.spaced_hex2(b);
+        self.n = text.end();
     }
 
     // A number in decimal.
     pub fn decimal(&mut self, number: u32)
         ensures { Adds self.old (decimal number) self.new }
     {
-        self.n = text::decimal(&mut self.bytes, self.n, number);
+        let mut text = Text::new(&mut self.bytes, self.n);
+        text.decimal(number);
+        self.n = text.end();
     }
 }
 

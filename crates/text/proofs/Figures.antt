@@ -7,10 +7,10 @@ use mathlib.Core.Bool.{Bool, true, cond, not, ◌&&◌}
 use mathlib.Core.List.{List, [], ◌∷◌, ◌++◌}
 use lib.Dec.{eqb, ltb, lit≤}
 use lib.ListN.{length, get_or, length-append}
-use mathlib.Core.List.{append_assoc}
-use borrow.Author.Tests.{lt-ltb, le-ltb, eq-eqb, ne_eqb, ltb-true, ltb-false}
+use mathlib.Core.List.{append_assoc, append-nil}
+use borrow.Author.Tests.{lt-ltb, le-ltb, eq-eqb, ne_eqb}
 use Rattle.words.proofs.Tests.{by_test, decided, false_true, and_left, and_right, and_true}
-use Rattle.text.specs.Figures.{decimal_up_to, decimal, hexadecimal, figure, figure_by}
+use Rattle.text.specs.Figures.{decimal_up_to, decimal, last_figures, hexadecimal, figure, figure_by}
 
 pub one_figure : (n : ℕ) → n < 10 → decimal n ≡ (48 + n % 10) ∷ []
 unfolding decimal_up_to
@@ -26,59 +26,50 @@ pub more_figures : (n : ℕ) → 10 ≤ n → n < 2 ^ 32 → decimal n ≡ decim
 unfolding decimal_up_to
 more_figures n a b = rw (le-ltb n 10 a) (ap (λ (t : List ℕ). t ++ ((48 + n % 10) ∷ [])) (enough 8 (n / 10) (let g : n < 4294967296 = b in omega arith)))
 
-pub two_figures : (n : ℕ) → 10 ≤ n → n < 100 → (48 + n / 10 % 10) ∷ (48 + n % 10) ∷ [] ≡ decimal n
-two_figures n a b =
-    sym (more_figures n a (omega (arith, b)) ∙ ap (λ (t : List ℕ). t ++ ((48 + n % 10) ∷ [])) (one_figure (n / 10) (omega (arith, b))))
+-- ---- the last figures of a number, as many as the width says
 
-pub three_figures : (n : ℕ) → 100 ≤ n → n < 1000 → (48 + n / 10 / 10 % 10) ∷ (48 + n / 10 % 10) ∷ (48 + n % 10) ∷ [] ≡ decimal n
-three_figures n a b =
-    sym (more_figures n (omega (arith, a)) (omega (arith, b)) ∙ ap (λ (t : List ℕ). t ++ ((48 + n % 10) ∷ [])) (sym (two_figures (n / 10) (omega (arith, a)) (omega (arith, b)))))
+some_power : (k : ℕ) → 1 ≤ 10 ^ k
+some_power zero = lit≤ tt
+some_power (suc k) = let p = pow-suc 10 k in let h = some_power k in omega (arith, p, h)
 
--- the last four figures
-abbrev pub last_four : ℕ → List ℕ
-last_four n = (48 + n / 10 / 10 / 10 % 10) ∷ (48 + n / 10 / 10 % 10) ∷ (48 + n / 10 % 10) ∷ (48 + n % 10) ∷ []
+-- they are all of them
+all_figures : (k n : ℕ) → 10 ^ k ≤ n → n < 10 ^ suc k → n < 2 ^ 32 → decimal n ≡ last_figures (suc k) n
+all_figures zero n a b c = one_figure n b
+all_figures (suc k) n a b c =
+    let p = pow-suc 10 k in
+    let q = pow-suc 10 (suc k) in
+    let h : n < 4294967296 = c in
+    let one = some_power k in
+    more_figures n (omega (arith, a, p, one)) c ∙ ap (λ (t : List ℕ). t ++ ((48 + n % 10) ∷ [])) (all_figures k (n / 10) (omega (arith, a, p)) (omega (arith, b, q)) (let g : n / 10 < 4294967296 = omega (arith, h) in g))
 
-pub four_figures : (n : ℕ) → 1000 ≤ n → n < 10000 → last_four n ≡ decimal n
-four_figures n a b =
-    sym (more_figures n (omega (arith, a)) (omega (arith, b)) ∙ ap (λ (t : List ℕ). t ++ ((48 + n % 10) ∷ [])) (sym (three_figures (n / 10) (omega (arith, a)) (omega (arith, b)))))
+pub two_figures : (n : ℕ) → 10 ≤ n → n < 100 → decimal n ≡ last_figures 2 n
+two_figures n a b = all_figures 1 n a b (omega (arith, b))
 
--- figures put after figures
-after_them : (n : ℕ) (t u : List ℕ) → 10 ≤ n → n < 2 ^ 32 → decimal (n / 10) ≡ t ++ u → decimal n ≡ t ++ (u ++ ((48 + n % 10) ∷ []))
-after_them n t u a b q = more_figures n a b ∙ ap (λ (w : List ℕ). w ++ ((48 + n % 10) ∷ [])) q ∙ append_assoc t u ((48 + n % 10) ∷ [])
+pub three_figures : (n : ℕ) → 100 ≤ n → n < 1000 → decimal n ≡ last_figures 3 n
+three_figures n a b = all_figures 2 n a b (omega (arith, b))
 
-pub four_more : (n : ℕ) → 10000 ≤ n → n < 2 ^ 32 → decimal (n / 10000) ++ last_four n ≡ decimal n
-four_more n a b =
+pub four_figures : (n : ℕ) → 1000 ≤ n → n < 10000 → decimal n ≡ last_figures 4 n
+four_figures n a b = all_figures 3 n a b (omega (arith, b))
+
+pub five_figures : (n : ℕ) → 10000 ≤ n → n < 100000 → decimal n ≡ last_figures 5 n
+five_figures n a b = all_figures 4 n a b (omega (arith, b))
+
+-- the figures before them, and them
+last_more : (k n : ℕ) (t : List ℕ) → 10 ≤ n → n < 2 ^ 32 → t ++ last_figures k (n / 10) ≡ decimal (n / 10) → t ++ last_figures (suc k) n ≡ decimal n
+last_more k n t a b q = sym (append_assoc t (last_figures k (n / 10)) ((48 + n % 10) ∷ [])) ∙ ap (λ (u : List ℕ). u ++ ((48 + n % 10) ∷ [])) q ∙ sym (more_figures n a b)
+
+pub five_more : (n : ℕ) → 100000 ≤ n → n < 2 ^ 32 → decimal (n / 100000) ++ last_figures 5 n ≡ decimal n
+five_more n a b =
     let h : n < 4294967296 = b in
-    let one : (m : ℕ) → 10 ≤ m → m < 4294967296 → decimal m ≡ decimal (m / 10) ++ ((48 + m % 10) ∷ []) = more_figures in
-    ap (λ (m : ℕ). decimal m ++ last_four n) (let e : n / 10000 ≡ n / 10 / 10 / 10 / 10 = omega arith in e)
-    ∙ sym
-    (after_them n (decimal (n / 10 / 10 / 10 / 10)) _ (omega (arith, a)) h
-    (after_them (n / 10) (decimal (n / 10 / 10 / 10 / 10)) _ (omega (arith, a)) (omega (arith, h))
-    (after_them (n / 10 / 10) (decimal (n / 10 / 10 / 10 / 10)) _ (omega (arith, a)) (omega (arith, h))
-    (one (n / 10 / 10 / 10) (omega (arith, a)) (omega (arith, h))))))
-
-pub eight_more : (n : ℕ) → 100000000 ≤ n → n < 2 ^ 32 → (decimal (n / 100000000) ++ last_four (n / 10000)) ++ last_four n ≡ decimal n
-eight_more n a b =
-    let h : n < 4294967296 = b in
-    ap (λ (t : List ℕ). t ++ last_four n)
-    (ap (λ (m : ℕ). decimal m ++ last_four (n / 10000)) (let e : n / 100000000 ≡ n / 10000 / 10000 = omega arith in e)
-    ∙ four_more (n / 10000) (omega (arith, a)) (let g : n / 10000 < 4294967296 = omega (arith, h) in g))
-    ∙ four_more n (omega (arith, a)) b
-
--- the top is what is before the last four figures, or before the last eight
-pub top_below : (n : ℕ) → n < 2 ^ 32 → cond (ltb n 10000) n (cond (ltb n 100000000) (n / 10000) (n / 100000000)) < 10000
-top_below n b =
-    let h : n < 4294967296 = b in
-    decided (ltb n 10000)
-    (λ t. rw t (ltb-true n 10000 t))
-    (λ t. decided (ltb n 100000000) (λ u. rw (t, u) (let g = ltb-true n 100000000 u in omega (arith, g))) (λ u. rw (t, u) (omega (arith, h))))
+    ap (λ (m : ℕ). decimal m ++ last_figures 5 n) (let e : n / 100000 ≡ n / 10 / 10 / 10 / 10 / 10 = omega arith in e)
+    ∙ last_more 4 n _ (omega (arith, a)) b
+    (last_more 3 (n / 10) _ (omega (arith, a)) (let g : n / 10 < 4294967296 = omega (arith, h) in g)
+    (last_more 2 (n / 10 / 10) _ (omega (arith, a)) (let g : n / 10 / 10 < 4294967296 = omega (arith, h) in g)
+    (last_more 1 (n / 10 / 10 / 10) _ (omega (arith, a)) (let g : n / 10 / 10 / 10 < 4294967296 = omega (arith, h) in g)
+    (last_more 0 (n / 10 / 10 / 10 / 10) _ (omega (arith, a)) (let g : n / 10 / 10 / 10 / 10 < 4294967296 = omega (arith, h) in g) (append-nil _)))))
 
 pub same_row : {a a' : ℕ} {t t' : List ℕ} → a ≡ a' → t ≡ t' → a ∷ t ≡ a' ∷ t'
 same_row {a} {a'} {t} {t'} p q = ap (λ (x : ℕ). x ∷ t) p ∙ ap (λ (x : List ℕ). a' ∷ x) q
-
--- two of the hundredths, and two of the rest
-pub by_hundreds : (n : ℕ) → (48 + n / 100 / 10 % 10) ∷ (48 + n / 100 % 10) ∷ (48 + n % 100 / 10 % 10) ∷ (48 + n % 100 % 10) ∷ [] ≡ last_four n
-by_hundreds n = same_row (omega arith) (same_row (omega arith) (same_row (omega arith) (same_row (omega arith) refl)))
 
 -- each figure by its place
 pub by_places : (n : ℕ) → figure (n / 0x10000000 % 16) ∷ figure (n / 0x1000000 % 16) ∷ figure (n / 0x100000 % 16) ∷ figure (n / 0x10000 % 16) ∷ figure (n / 0x1000 % 16) ∷ figure (n / 0x100 % 16) ∷ figure (n / 0x10 % 16) ∷ figure (n % 16) ∷ [] ≡ hexadecimal 8 n
@@ -90,22 +81,6 @@ by_places n =
     (same_row (ap (λ (k : ℕ). figure (k % 16)) (let e : n / 0x10000 ≡ n / 16 / 16 / 16 / 16 = omega arith in e))
     (same_row (ap (λ (k : ℕ). figure (k % 16)) (let e : n / 0x1000 ≡ n / 16 / 16 / 16 = omega arith in e))
     (same_row (ap (λ (k : ℕ). figure (k % 16)) (let e : n / 0x100 ≡ n / 16 / 16 = omega arith in e)) refl)))))
-
-pub eight_figures : (n : ℕ) → hexadecimal 4 (n / 16 / 16 / 16 / 16) ++ hexadecimal 4 n ≡ hexadecimal 8 n
-unfolding hexadecimal
-eight_figures n = refl
-
--- ---- a number that is none of the first ones
-
-abbrev pub NoneBelow : ℕ → ℕ → Type 0
-NoneBelow d zero = Unit
-NoneBelow d (suc n) = NoneBelow d n × (d ≡ n → ⊥)
-
-pub none_below : (d n : ℕ) → NoneBelow d n → n ≤ d
-none_below d zero k = omega arith
-none_below d (suc n) k =
-    let above = none_below d n k.0 in
-    decided (ltb n d) (λ t. let g = ltb-true n d t in omega (arith, g)) (λ t. absurd (k.1 (let g = ltb-false n d t in omega (arith, g, above))))
 
 -- ---- how many figures
 

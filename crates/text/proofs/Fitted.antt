@@ -3,14 +3,13 @@ use Prim.Native.Nat.{ℕ, ◌+◌, ◌≤◌}
 use native.Mathlib.Nat.{zero-add}
 use native.Mathlib.Omega.{arith}
 use mathlib.Core.Path.{◌≡◌, refl, sym, ap, ◌∙◌}
-use mathlib.Core.Bool.{Bool, true, false, cond}
+use mathlib.Core.Bool.{Bool, false, cond}
 use mathlib.Core.List.{List, [], ◌∷◌, ◌++◌}
 use lib.ListN.{length, take, drop}
 use lib.Seq.{sets, sets-eq, take_at}
 use borrow.Author.Tests.{ltb-false}
 use Rattle.words.proofs.Tests.{decided}
 use Rattle.refusal.specs.declared.Refusal.{Refusal}
-use Rattle.refusal.specs.declared.Refusal.TheVariants.{ShortBuffer}
 use Rattle.refusal.specs.Conditions.{◌when◌, good}
 use Rattle.refusal.proofs.Conditions.{pick}
 use Rattle.std.specs.declared.result.Result.{Result}
@@ -18,22 +17,6 @@ use Rattle.std.specs.declared.result.Result.TheVariants.{Ok, Err}
 use Rattle.text.specs.Put.{Put, place, last_place}
 use Rattle.text.specs.Written.{is_short, fitted, Fitted, told_text}
 use Rattle.text.proofs.Put.{place_within}
-
--- ---- how an answer is had
-
-pub short_refused : (t held : List ℕ) → is_short t (length held) ≡ true → Fitted t held (Err ShortBuffer) held
-short_refused t held short =
-    record {
-      answered = ap (λ (b : Bool). cond b (Err ShortBuffer) (Ok (length t))) (sym short);
-      holds = ap (λ (b : Bool). cond b held (sets held 0 t)) (sym short);
-    }
-
-pub text_written : (t held after : List ℕ) (r : ℕ) → length t ≤ last_place → is_short t (length held) ≡ false → Put held 0 t r after → Fitted t held (Ok r) after
-text_written t held after r within fits p =
-    record {
-      answered = ap Ok (p.goes_on ∙ ap place (zero-add (length t)) ∙ place_within (length t) within) ∙ ap (λ (b : Bool). cond b (Err ShortBuffer) (Ok (length t))) (sym fits);
-      holds = p.holds ∙ ap (λ (b : Bool). cond b held (sets held 0 t)) (sym fits);
-    }
 
 -- ---- what an answer says
 

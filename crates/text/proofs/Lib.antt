@@ -3,3 +3,4 @@ pub mod Put
 pub mod Figures
 pub mod Fitted
 pub mod Promise
+pub mod Puts

@@ -13,6 +13,7 @@ use Rattle.words.proofs.Tests.{decided}
 use Rattle.text.specs.Figures.{figure, hexadecimal, decimal_up_to, decimal}
 use Rattle.text.specs.Put.{Put}
 use Rattle.text.specs.Promise.{Holds, figure_value, number_from, Promise}
+use Rattle.text.proofs.Puts.{given_back}
 use Rattle.text.proofs.Put.{sets_out, place_within, kept_length}
 use Rattle.text.proofs.Figures.{hexadecimal_length, decimal_length, decimal_below}
 
@@ -87,6 +88,8 @@ promise =
     record {
       holds = held;
       one = λ before at text next next' after after' x y. (x.goes_on ∙ sym y.goes_on, x.holds ∙ sym y.holds);
+      texts = λ lent at begun text put b p. (given_back b p (λ e. refl) refl, p.same ∙ b.same);
+      one_text = λ before text text' put x y. (x.there.goes_on ∙ sym y.there.goes_on, x.there.holds ∙ sym y.there.holds);
       hexadecimal_number = hex_number;
       decimal_number = λ n h. up_to_number 9 n (let below : n < 4294967296 = h in omega (arith, below));
       hexadecimal_width = hexadecimal_length;

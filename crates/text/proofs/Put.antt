@@ -1,15 +1,14 @@
 -- Text put after text is the two of them put at once, whether or not they fit. Assumes nothing.
-use Prim.Native.Nat.{ℕ, suc, ◌+◌, ◌-◌, ◌≤◌, ◌<◌, ◌^◌}
+use Prim.Native.Nat.{ℕ, suc, ◌+◌, ◌≤◌, ◌<◌, ◌^◌}
 use native.Mathlib.Nat.{add-zero, add-suc, suc-add, add_assoc}
 use native.Mathlib.Numerals.{add-one}
 use native.Mathlib.Omega.{arith}
-use mathlib.Core.Path.{◌≡◌, refl, sym, ap, subst, ◌∙◌}
-use mathlib.Core.Bool.{true}
+use mathlib.Core.Path.{◌≡◌, refl, sym, ap, ◌∙◌}
 use mathlib.Core.List.{List, [], ◌∷◌, ◌++◌}
 use lib.ListN.{length, get_or, set, take, length-append}
 use lib.Dec.{leb}
-use lib.Seq.{sets, set_out, length-sets, take-suc}
-use borrow.Author.Tests.{le-leb, lt-leb, leb-true, leb-false}
+use lib.Seq.{sets, set_out, length-sets, length-take-le, take-suc}
+use borrow.Author.Tests.{le-leb, leb-true, leb-false}
 use Rattle.words.proofs.Tests.{decided}
 use Rattle.text.specs.Put.{Put, place, last_place}
 
@@ -62,34 +61,11 @@ then {d} {e} {f} {at} {p} {r} {t} {u} h x y =
       holds = y.holds ∙ stores d e at p t u (let g : length d < 18446744073709551616 = h in omega arith) x.goes_on x.holds;
     }
 
-pub put_as : {d e : List ℕ} {at r : ℕ} {t u : List ℕ} → t ≡ u → Put d at t r e → Put d at u r e
-put_as {d} {e} {at} {r} q x = subst (λ (v : List ℕ). Put d at v r e) q x
-
--- ---- one byte
-
-pub next_place : (at : ℕ) → at < last_place → at + 1 ≡ place (at + 1)
-next_place at h = sym (place_within (at + 1) (omega arith))
-
-pub last_place_lem : (at : ℕ) → last_place ≤ at → at ≤ last_place → at ≡ place (at + 1)
-last_place_lem at h k = let e : at ≡ last_place = omega arith in e ∙ sym (place_beyond (at + 1) (omega arith))
-
 -- ---- bytes stored in a row
 
-pub room_test : (at n l : ℕ) → n ≤ l → leb at (l - n) ≡ leb (at + n) l
-room_test at n l h =
-    decided (leb at (l - n))
-    (λ t. t ∙ sym (le-leb (at + n) l (let g = leb-true at (l - n) t in omega (arith, g, h))))
-    (λ t. t ∙ sym (lt-leb (at + n) l (let g = leb-false at (l - n) t in omega (arith, g, h))))
-
 -- one more byte, at the next place
-pub and_one : (d e : List ℕ) (at : ℕ) (t : List ℕ) (v : ℕ) → e ≡ sets d at t → set e (at + length t) v ≡ sets d at (t ++ (v ∷ []))
+and_one : (d e : List ℕ) (at : ℕ) (t : List ℕ) (v : ℕ) → e ≡ sets d at t → set e (at + length t) v ≡ sets d at (t ++ (v ∷ []))
 and_one d e at t v q = ap (λ (l : List ℕ). set l (at + length t) v) q ∙ sym (sets_append d at t (v ∷ []))
-
-pub row : (d e : List ℕ) (at : ℕ) (t : List ℕ) → e ≡ sets d at t → leb (at + length t) (length d) ≡ true → length d < 2 ^ 64 → Put d at t (at + length t) e
-row d e at t q room g =
-    let h : length d < 18446744073709551616 = g in
-    let fits = leb-true (at + length t) (length d) room in
-    record { goes_on = sym (place_within (at + length t) (omega (arith, fits, h))); holds = q }
 
 -- ---- a text byte by byte
 
@@ -98,3 +74,10 @@ take_next l i h = ap (λ (k : ℕ). take k l) (add-one i) ∙ take-suc l i 0 h
 
 pub kept_length : {d e : List ℕ} {at r : ℕ} {t : List ℕ} → Put d at t r e → length e ≡ length d
 kept_length {d} {e} {at} {r} {t} x = ap length x.holds ∙ length-sets d at t
+
+-- the next byte of a row, stored after those before it
+pub stored_next : (d e l : List ℕ) (at i : ℕ) → i < length l → e ≡ sets d at (take i l) → set e (at + i) (get_or l i 0) ≡ sets d at (take (i + 1) l)
+stored_next d e l at i h q =
+    ap (λ (k : ℕ). set e (at + k) (get_or l i 0)) (sym (length-take-le i l (omega arith)))
+    ∙ and_one d e at (take i l) (get_or l i 0) q
+    ∙ ap (sets d at) (sym (take_next l i h))

@@ -22,3 +22,8 @@ decimal_up_to (suc more) n = cond (ltb n 10) ((48 + n % 10) ∷ []) (decimal_up_
 -- a number of 32 bits has ten figures at most
 abbrev pub decimal : ℕ → List ℕ
 decimal n = decimal_up_to 9 n
+
+-- the last figures of a number in decimal, as many as the width says
+abbrev pub last_figures : ℕ → ℕ → List ℕ
+last_figures zero n = []
+last_figures (suc width) n = last_figures width (n / 10) ++ ((48 + n % 10) ∷ [])

@@ -4,3 +4,4 @@ pub mod Letters
 pub mod Put
 pub mod Written
 pub mod Promise
+pub mod Puts

@@ -1,7 +1,10 @@
 -- What the text crate promises. `proofs/Promise` proves it.
 use Rattle.std.specs.Prelude.{ℕ, ◌+◌, ◌-◌, ◌*◌, ◌/◌, ◌%◌, ◌≤◌, ◌<◌, ◌^◌, ◌≡◌, cond, List, [], ◌∷◌, ◌++◌, ltb, length, get_or, take, drop}
 use Rattle.text.specs.Figures.{figure, hexadecimal, decimal}
+use Rattle.std.specs.Borrow.{MutBor}
+use Rattle.text.specs.declared.Text.{Text}
 use Rattle.text.specs.Put.{Put}
+use Rattle.text.specs.Puts.{Begins, Puts}
 
 -- ---- a text in a buffer
 
@@ -28,6 +31,9 @@ pub record Promise : Type 0 where
   pub holds : (before : List ℕ) (at : ℕ) (text : List ℕ) (next : ℕ) (after : List ℕ) → length before < 2 ^ 64 → Put before at text next after → Holds before at text next after
   -- one outcome only
   pub one : (before : List ℕ) (at : ℕ) (text : List ℕ) (next next' : ℕ) (after after' : List ℕ) → Put before at text next after → Put before at text next' after' → (next ≡ next') × (after ≡ after')
+  -- a text goes on in the buffer that was lent: all that was put from its beginning on was put there, at the place where it began
+  pub texts : (lent : MutBor (List ℕ)) (at : ℕ) (begun text : Text) (put : List ℕ) → Begins lent at begun → Puts begun put text → Put lent.now at put text.at text.out.now × (text.out.ghost_name ≡ lent.ghost_name)
+  pub one_text : (before text text' : Text) (put : List ℕ) → Puts before put text → Puts before put text' → (text.at ≡ text'.at) × (text.out.now ≡ text'.out.now)
   -- what is written stands for the number: so no two numbers have the same figures
   pub hexadecimal_number : (width n : ℕ) → n < 16 ^ width → number_from 16 0 (hexadecimal width n) ≡ n
   pub decimal_number : (n : ℕ) → n < 2 ^ 32 → number_from 10 0 (decimal n) ≡ n

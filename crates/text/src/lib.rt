@@ -1,81 +1,16 @@
-// Figures and bytes into a lent buffer, from a place on. What does not fit is not written; the place is counted on all the same, so that a text can be
+// Figures and bytes into a lent buffer, one after another. What does not fit is not written; the place is counted on all the same, so that a text can be
 // measured by putting it into a buffer that is too short. Nothing is written into a buffer any other way.
+//
+// What is put in a loop is compiled into it, so that the place stays in a register there: a method that is called has it in memory.
 #![tactic(auto)]
 
-ghost use Rattle.std.specs.Prelude.{◌≡◌, cond, [], ◌∷◌, ◌+◌, ◌/◌, ◌%◌, ◌<◌, leb, ltb};
-ghost use Rattle.text.specs.Figures.{figure, hexadecimal, decimal as decimalFigures};
-ghost use Rattle.text.specs.Put.{Put, place};
+ghost use Rattle.std.specs.Prelude.{◌≡◌, [], ◌∷◌, ◌+◌, ◌/◌, ◌%◌, ◌<◌, ◌≤◌, leb, length};
+ghost use Rattle.text.specs.Figures.{figure, hexadecimal, last_figures, decimal as decimalFigures};
+ghost use Rattle.text.specs.Put.{last_place};
 
-pub mod written;
+use refusal::Refusal;
 
-// The place after one.
-fn after(at: usize) -> usize
-    ensures { result ≡ place (at + 1) }
-{
-    if at < 18446744073709551615 {
-        at + 1
-    } else {
-        at
-    }
-}
-
-pub fn byte(out: &mut [u8], at: usize, b: u8) -> usize
-    ensures { Put out.old at (b ∷ []) result out.new }
-{
-    if at < out.len() {
-        out[at] = b;
-        return at + 1;
-    }
-    after(at)
-}
-
-pub fn bytes(out: &mut [u8], at: usize, text: &[u8]) -> usize
-    ensures { Put out.old at text.now result out.new }
-{
-    let mut i = 0;
-    let mut place = at;
-    while i < text.len() {
-        place = byte(out, place, text[i]);
-        i += 1;
-    }
-    place
-}
-
-// ---- three bytes at once: one test of the place for all of them where they fit
-
-// Whether so many bytes fit at a place of a buffer of that length.
-fn has_room(length: usize, at: usize, n: usize) -> bool
-    ensures { result ≡ leb (at + n) length }
-{
-    if length < n {
-        return false;
-    }
-    at <= length - n
-}
-
-fn three(out: &mut [u8], at: usize, a: u8, b: u8, c: u8) -> usize
-    ensures { Put out.old at (a ∷ b ∷ c ∷ []) result out.new }
-{
-    let room = has_room(out.len(), at, 3);
-    if room {
-        out[at] = a;
-        out[at + 1] = b;
-        out[at + 2] = c;
-        return at + 3;
-    }
-    let next = byte(out, at, a);
-    let last = byte(out, next, b);
-    byte(out, last, c)
-}
-
-fn four(out: &mut [u8], at: usize, a: u8, b: u8, c: u8, d: u8) -> usize
-    ensures { Put out.old at (a ∷ b ∷ c ∷ d ∷ []) result out.new }
-{
-    let next = byte(out, at, a);
-    three(out, next, b, c, d)
-}
-
-// ---- hexadecimal
+// ---- figures
 
 // The last figure of a number in hexadecimal, looked up. A constant array would be copied at each look.
 pub fn hex_figure(n: u32) -> u8
@@ -101,63 +36,23 @@ pub fn hex_figure(n: u32) -> u8
     }
 }
 
-// A byte in two figures after one space.
-pub fn spaced_hex2(out: &mut [u8], at: usize, n: u8) -> usize
-    ensures { Put out.old at (32 ∷ hexadecimal 2 n) result out.new }
+// All eight figures of a number in hexadecimal.
+#[inline(always)]
+#[tactic(auto, using(crate::proofs::Figures::by_places))]
+fn hex_figures(n: u32) -> [u8; 8]
+    ensures { result ≡ hexadecimal 8 n }
 {
-    three(out, at, 32, hex_figure(n as u32 / 16), hex_figure(n as u32))
-}
-
-// The last four figures.
-fn hex4(out: &mut [u8], at: usize, n: u32) -> usize
-    ensures { Put out.old at (hexadecimal 4 n) result out.new }
-{
-    four(
-        out,
-        at,
-        hex_figure(n / 16 / 16 / 16),
-        hex_figure(n / 16 / 16),
-        hex_figure(n / 16),
-        hex_figure(n),
-    )
-}
-
-pub fn hex8(out: &mut [u8], at: usize, n: u32) -> usize
-    ensures { Put out.old at (hexadecimal 8 n) result out.new }
-{
-    let a = hex4(out, at, n / 16 / 16 / 16 / 16);
-    hex4(out, a, n)
-}
-
-// All eight figures after one space. A line of a listing calls this in one place, so that it is compiled into the loop over the records; elsewhere
-// `byte` and `hex8` do.
-pub fn spaced_hex8(out: &mut [u8], at: usize, n: u32) -> usize
-    ensures { Put out.old at (32 ∷ hexadecimal 8 n) result out.new }
-{
-    let a = three(
-        out,
-        at,
-        32,
+    [
         hex_figure(n / 0x10000000),
         hex_figure(n / 0x1000000),
-    );
-    let b = three(
-        out,
-        a,
         hex_figure(n / 0x100000),
         hex_figure(n / 0x10000),
         hex_figure(n / 0x1000),
-    );
-    three(
-        out,
-        b,
         hex_figure(n / 0x100),
         hex_figure(n / 0x10),
         hex_figure(n),
-    )
+    ]
 }
-
-// ---- decimal
 
 // The last figure of a number in decimal.
 fn figure_of(n: u32) -> u8
@@ -166,71 +61,176 @@ fn figure_of(n: u32) -> u8
     (48 + n % 10) as u8
 }
 
-// The last four figures.
-fn last_four(out: &mut [u8], at: usize, n: u32) -> usize
-    ensures { Put out.old at ((48 + n / 10 / 10 / 10 % 10) ∷ (48 + n / 10 / 10 % 10) ∷ (48 + n / 10 % 10) ∷ (48 + n % 10) ∷ []) result out.new }
-{
-    let high = n / 100;
-    let low = n % 100;
-    four(
-        out,
-        at,
-        figure_of(high / 10),
-        figure_of(high),
-        figure_of(low / 10),
-        figure_of(low),
-    )
+// ---- texts
+
+// A text in a lent buffer, and the place that it has come to.
+#[derive(Drop)]
+pub struct Text<'a> {
+    out: &'a mut [u8],
+    at: usize,
+    // a slice has fewer than 2 ^ 64 bytes, and the place is a number of the machine
+    ghost room: { length out.now ≤ last_place },
+    ghost counted: { at ≤ last_place },
 }
 
-// A number of at most four figures.
-#[tactic(auto, using(crate::proofs::Figures::one_figure))]
-fn few(out: &mut [u8], at: usize, n: u32) -> usize
-    requires { n < 10000 }
-    ensures { Put out.old at (decimalFigures n) result out.new }
-{
-    if n < 10 {
-        return byte(out, at, figure_of(n));
-    }
-    if n < 100 {
-        let next = byte(out, at, figure_of(n / 10));
-        return byte(out, next, figure_of(n));
-    }
-    if n < 1000 {
-        return three(
-            out,
-            at,
-            figure_of(n / 10 / 10),
-            figure_of(n / 10),
-            figure_of(n),
-        );
-    }
-    last_four(out, at, n)
-}
+impl<'a> Text<'a> {
+    ghost use Rattle.text.specs.Puts.{Begins, Puts};
+    ghost use Rattle.text.specs.Written.{refused_line};
 
-// The figures before the last four, or before the last eight: a number of at most four figures.
-fn top_of(n: u32) -> u32
-    ensures { result ≡ cond (ltb n 10000) n (cond (ltb n 100000000) (n / 10000) (n / 100000000)) }
-{
-    if n < 10000 {
-        return n;
+    // A text that goes on at a place of a buffer.
+    pub fn new(out: &'a mut [u8], at: usize) -> Text<'a>
+        ensures { Begins out.entry at result }
+    {
+        Text { out, at }
     }
-    if n < 100000000 {
-        return n / 10000;
-    }
-    n / 100000000
-}
 
-// A number in decimal: at most four figures, and four or eight more.
-pub fn decimal(out: &mut [u8], at: usize, n: u32) -> usize
-    ensures { Put out.old at (decimalFigures n) result out.new }
-{
-    let a = few(out, at, top_of(n));
-    if n < 10000 {
-        return a;
+    // The place after the text.
+    pub fn end(&self) -> usize
+        ensures { result ≡ self.now.at }
+    {
+        self.at
     }
-    if n < 100000000 {
-        return last_four(out, a, n);
+
+    // Whether so many bytes more fit.
+    fn has_room(&self, n: usize) -> bool
+        ensures { result ≡ leb (self.now.at + n) (length self.now.out.now) }
+    {
+        n <= self.out.len() && self.at <= self.out.len() - n
     }
-    let b = last_four(out, a, n / 10000);
-    last_four(out, b, n)
+
+    pub fn byte(&mut self, b: u8)
+        ensures { Puts self.old (b ∷ []) self.new }
+    {
+        if self.at < self.out.len() {
+            self.out[self.at] = b;
+        }
+        self.at = self.at.saturating_add(1);
+    }
+
+    pub fn bytes(&mut self, text: &[u8])
+        ensures { Puts self.old text.now self.new }
+    {
+        for b in text {
+            self.byte(*b);
+        }
+    }
+
+    // So many bytes at once: one test of the place for all of them where they fit.
+    #[inline(always)]
+    #[tactic(auto, using(crate::proofs::Put::stored_next))]
+    pub fn row<const N: usize>(&mut self, row: [u8; N])
+        ensures { Puts self.old row.entry self.new }
+    {
+        let room = self.has_room(N);
+        if room {
+            let at = self.at;
+            for i in 0..N {
+                self.out[at + i] = row[i];
+            }
+            self.at += N;
+        } else {
+            self.bytes(&row);
+        }
+    }
+
+    // A byte in two figures after one space.
+    #[inline(always)]
+    #[tactic(auto, unfolding(crate::specs::Figures::hexadecimal))]
+    pub fn spaced_hex2(&mut self, n: u8)
+        ensures { Puts self.old (32 ∷ hexadecimal 2 n) self.new }
+    {
+        self.row([b' ', hex_figure(n as u32 / 16), hex_figure(n as u32)]);
+    }
+
+    pub fn hex8(&mut self, n: u32)
+        ensures { Puts self.old (hexadecimal 8 n) self.new }
+    {
+        self.row(hex_figures(n));
+    }
+
+    // All eight figures after one space.
+    #[inline(always)]
+    pub fn spaced_hex8(&mut self, n: u32)
+        ensures { Puts self.old (32 ∷ hexadecimal 8 n) self.new }
+    {
+        let [a, b, c, d, e, f, g, h] = hex_figures(n);
+        self.row([b' ', a, b, c, d, e, f, g, h]);
+    }
+
+    // The last five figures.
+    #[inline(always)]
+    fn last_five(&mut self, n: u32)
+        ensures { Puts self.old (last_figures 5 n) self.new }
+    {
+        let high = n / 100;
+        let low = n % 100;
+        self.row([
+            figure_of(high / 10 / 10),
+            figure_of(high / 10),
+            figure_of(high),
+            figure_of(low / 10),
+            figure_of(low),
+        ]);
+    }
+
+    // A number of at most five figures.
+    #[inline(always)]
+    #[tactic(auto, using(crate::proofs::Figures::one_figure, crate::proofs::Figures::two_figures, crate::proofs::Figures::three_figures, crate::proofs::Figures::four_figures, crate::proofs::Figures::five_figures))]
+    fn few(&mut self, n: u32)
+        requires { n < 100000 }
+        ensures { Puts self.old (decimalFigures n) self.new }
+    {
+        if n < 10 {
+            self.byte(figure_of(n));
+        } else if n < 100 {
+            self.row([figure_of(n / 10), figure_of(n)]);
+        } else if n < 1000 {
+            self.row([figure_of(n / 10 / 10), figure_of(n / 10), figure_of(n)]);
+        } else if n < 10000 {
+            self.row([
+                figure_of(n / 10 / 10 / 10),
+                figure_of(n / 10 / 10),
+                figure_of(n / 10),
+                figure_of(n),
+            ]);
+        } else {
+            self.last_five(n);
+        }
+    }
+
+    // A number in decimal: at most five figures, or five more.
+    #[inline(always)]
+    pub fn decimal(&mut self, n: u32)
+        ensures { Puts self.old (decimalFigures n) self.new }
+    {
+        if n < 100000 {
+            self.few(n);
+        } else {
+            self.few(n / 100000);
+            self.last_five(n);
+        }
+    }
+
+    // A number in decimal after one space. One figure is put with it.
+    #[inline(always)]
+    #[tactic(auto, using(crate::proofs::Figures::one_figure))]
+    pub fn spaced_decimal(&mut self, n: u32)
+        ensures { Puts self.old (32 ∷ decimalFigures n) self.new }
+    {
+        if n > 9 {
+            self.byte(b' ');
+            self.decimal(n);
+        } else {
+            self.row([b' ', figure_of(n)]);
+        }
+    }
+
+    // The line of a refusal.
+    pub fn refused_line(&mut self, why: Refusal)
+        ensures { Puts self.old (refused_line why) self.new }
+    {
+        self.bytes(b"refused ");
+        self.decimal(u32::from(u8::from(why)));
+        self.byte(b'\n');
+    }
 }

@@ -2,12 +2,12 @@
 use mathlib.Core.Path.{ap}
 use mathlib.Core.List.{List, [], ◌∷◌, ◌++◌, append_assoc}
 use Prim.Native.Nat.{ℕ}
-use Rattle.text.proofs.Put.{then, put_as}
+use Rattle.text.proofs.Puts.{then, puts_as}
 use Rattle.sheet_line.specs.Lines.{name_of, figures_of, line_text}
 use Rattle.sheet_line.proofs.line.line.Goals as goal
 
 pub returns : goal.returns
 unfolding line_text
 returns c =
-    put_as (ap (λ (t : List ℕ). t ++ (10 ∷ [])) (append_assoc (name_of c.args.setting) (32 ∷ []) (figures_of c.args.setting c.args.value)))
-    (then c.well_formed.0.0 (then c.well_formed.0.0 (then c.well_formed.0.0 (put_as c.name.ensures c.bytes-a.ensures) c.byte-b.ensures) c.figures-c.ensures) c.byte.ensures)
+    puts_as (ap (λ (t : List ℕ). t ++ (10 ∷ [])) (append_assoc (name_of c.args.setting) (32 ∷ []) (figures_of c.args.setting c.args.value)))
+    (then (then (then (puts_as c.name.ensures c.bytes.ensures) c.byte.ensures) c.figures.ensures) c.byte-2.ensures)
