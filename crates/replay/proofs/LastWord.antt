@@ -12,7 +12,7 @@ use Rattle.replay.specs.LastWord.{word_on, WholeListing, WholeRefusal, SaidOfLog
 told_by_lem : (s : List ℕ) (n : ℕ) (rest : Rest) → rest_in n s ≡ rest → Stands s rest → SaidOfLog s (word_on rest)
 told_by_lem s n (Refusing why) o x = tt
 told_by_lem s n (Records b next) o x = tt
-told_by_lem s n (Over (Ok u)) o x = let whole : WholeListing s = record { accepted = x; parts = n; over = o } in whole
+told_by_lem s n (Over (Ok b)) o x = let whole : WholeListing s = record { accepted = x.0; parts = n; last = b; over = o } in whole
 told_by_lem s n (Over (Err why)) o x = let whole : WholeRefusal s = record { why = why; refused = x; parts = n; over = o } in whole
 
 pub told : (s : List ℕ) (n : ℕ) (rest : Rest) → rest_in n s ≡ rest → SaidOfLog s (word_on rest)

@@ -5,13 +5,14 @@ use Rattle.refusal.specs.declared.Refusal.{Refusal}
 use Rattle.door.specs.declared.LastWord.{LastWord}
 use Rattle.door.specs.declared.LastWord.TheVariants.{Complete, Refused as No, Unread, Cut}
 use Rattle.bench_log.specs.Check.{checked}
+use Rattle.monitor.specs.declared.bench.Bench.{Bench}
 use Rattle.listing.specs.declared.output.Rest.{Rest}
 use Rattle.listing.specs.declared.output.Rest.TheVariants.{Over}
 use Rattle.listing.specs.Output.{rest_in}
 
 -- by whether the log is accepted
-abbrev pub word_for : Result Unit Refusal → LastWord
-word_for (Ok u) = Complete
+abbrev pub word_for : Result Bench Refusal → LastWord
+word_for (Ok b) = Complete
 word_for (Err why) = No
 
 abbrev pub word_on : Rest → LastWord
@@ -22,7 +23,8 @@ word_on _ = Cut
 pub record WholeListing (s : List ℕ) : Type 0 where
   pub accepted : checked s ≡ Ok tt
   pub parts : ℕ
-  pub over : rest_in parts s ≡ Over (Ok tt)
+  pub last : Bench
+  pub over : rest_in parts s ≡ Over (Ok last)
 
 -- the log is refused, and after some number of parts nothing was left
 pub record WholeRefusal (s : List ℕ) : Type 0 where

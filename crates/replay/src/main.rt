@@ -12,7 +12,7 @@ fn last_word(rest: Rest) -> LastWord
     ensures { result ≡ word_on rest }
 {
     match rest {
-        Rest::Over(Ok(())) => LastWord::Complete,
+        Rest::Over(Ok(_)) => LastWord::Complete,
         Rest::Over(Err(_)) => LastWord::Refused,
         _ => LastWord::Cut,
     }
