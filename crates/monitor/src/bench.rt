@@ -51,7 +51,7 @@ impl Bench {
     fn in_order(&self, at: Stamp) -> Result<(), Refusal>
         ensures { result ≡ cond (earlier at self.now.last) (Err EarlyStamp) (Ok tt) }
     {
-        if at < self.last {
+        if at.is_earlier(self.last) {
             return Err(Refusal::EarlyStamp);
         }
         Ok(())

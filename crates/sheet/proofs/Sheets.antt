@@ -1,19 +1,25 @@
 -- The text of a sheet: its lines one after another, and how long it is. Assumes nothing.
 use Prim.Native.Nat.{ℕ, ◌≤◌}
+use native.Mathlib.Nat.{zero-add}
 use native.Mathlib.Omega.{arith}
 use mathlib.Core.Path.{◌≡◌, refl, sym, ap, subst, ◌∙◌}
-use mathlib.Core.Bool.{true}
+use mathlib.Core.Bool.{Bool, true, cond}
 use mathlib.Core.List.{List, [], ◌++◌}
 use lib.ListN.{length, take, drop, length-append, drop_of_length-le, take-append-drop}
+use lib.Seq.{sets, sets-eq}
+use borrow.Author.Tests.{le-ltb}
 use Rattle.std.proofs.lemmas.List.Folds.{concat-append}
 use Rattle.std.specs.Prelude.{Result, Ok, Err, MatchResult}
 use Rattle.refusal.specs.declared.Refusal.{Refusal}
-use Rattle.refusal.specs.declared.Refusal.TheVariants.{WrongSheet}
+use Rattle.refusal.specs.declared.Refusal.TheVariants.{WrongSheet, ShortBuffer}
+use Rattle.text.specs.Put.{Put}
+use Rattle.text.proofs.Put.{kept_length}
+use Rattle.text.proofs.Fitted.{text_at_start}
 use Rattle.maintenance_pages.specs.declared.setting.Setting.TheVariants.{ReceiveId, TransmitId, Speed, Voltage, WarningLevel, FaultLevel}
 use Rattle.maintenance_pages.specs.declared.setting.Settings.{Settings}
 use Rattle.sheet_line.specs.Lines.{line_text}
 use Rattle.std.specs.List.{concat}
-use Rattle.sheet.specs.Sheet.{lines_of, sheet_text, is_legal, IsSheet, GoesOn, FirstWrong, Judges, Reads}
+use Rattle.sheet.specs.Sheet.{lines_of, sheet_text, is_legal, IsSheet, GoesOn, FirstWrong, Judges, Reads, WrittenBy, SheetWritten}
 use Rattle.sheet.specs.declared.reading.WrongLine.{WrongLine}
 use Rattle.sheet_line.proofs.Promise.{promise as lines}
 use Rattle.sheet.proofs.Judging.{legal_parts}
@@ -62,3 +68,32 @@ sheet_length k legal =
     let e' = length-append (line_text WarningLevel k.warning) (concat (drop 5 (lines_of k))) in
     let f' = length-append (line_text FaultLevel k.fault) [] in
     omega (arith, a, b, c, d, e, f, a', b', c', d', e', f')
+
+-- ---- a sheet that was put into an array of 84 bytes
+
+pub whole_there : (k : Settings) (d e : List ℕ) (n : ℕ) → is_legal k ≡ true → length d ≡ 84 → Put d 0 (sheet_text k) n e → (n ≡ length (sheet_text k)) × (take n e ≡ sheet_text k)
+whole_there k d e n l long p = let m = sheet_length k l in text_at_start d e (sheet_text k) n (omega (arith, m, long)) (omega (arith, long)) p
+
+pub within_array : (k : Settings) (d e : List ℕ) (n : ℕ) → is_legal k ≡ true → length d ≡ 84 → Put d 0 (sheet_text k) n e → n ≤ length e
+within_array k d e n l long p =
+    let most = sheet_length k l in
+    let size = (whole_there k d e n l long p).0 in
+    let kept = kept_length p in
+    omega (arith, most, size, kept, long)
+
+-- it stands at the start of a buffer that has room for it, and past it nothing changes
+pub copied : (k : Settings) (d e held : List ℕ) (n : ℕ) → is_legal k ≡ true → length d ≡ 84 → Put d 0 (sheet_text k) n e → n ≤ length held → SheetWritten k held (Ok n) (take n e ++ drop n held)
+copied k d e held n l long p h =
+    let both = whole_there k d e n l long p in
+    let size = both.0 in
+    let fits : length (sheet_text k) ≤ length held = omega (arith, size, h) in
+    let room = le-ltb (length held) (length (sheet_text k)) fits in
+    subst (λ (b : Bool). WrittenBy b k held (Ok n) (take n e ++ drop n held)) (sym l)
+    (record {
+      answered = ap Ok size ∙ sym (ap (λ (b : Bool). cond b (Err ShortBuffer) (Ok (length (sheet_text k)))) room);
+      holds =
+          (λ i. both.1 i ++ drop (size i) held)
+          ∙ ap (λ (j : ℕ). sheet_text k ++ drop j held) (sym (zero-add (length (sheet_text k))))
+          ∙ sym (sets-eq (sheet_text k) held 0 (omega (arith, fits)))
+          ∙ sym (ap (λ (b : Bool). cond b held (sets held 0 (sheet_text k))) room);
+    })

@@ -105,6 +105,17 @@ fn settings_in(r: [u8; 26]) -> Settings
     }
 }
 
+// A buffer of full stops is lent. It stands in a function of its own, since one that returns before it has made the buffer
+// has made it twice.
+fn answer_room(r: [u8; 26]) -> ControlFlow<LastWord> {
+    let mut stops = [46; 4095];
+    let room = usize::from(word_at::<u16, 2>(Order::Big, &r, 24));
+    let Some(out) = stops.get_mut(..room) else {
+        return ControlFlow::Break(LastWord::Refused);
+    };
+    next_if(answer_written(settings_in(r), out))
+}
+
 // ---- each case
 
 // The cases on standard input, and room for the longest bytes to be read.
@@ -129,16 +140,11 @@ impl Cases {
         next_if(line.write())
     }
 
-    // Settings to be written are answered. A buffer of full stops is lent.
+    // Settings to be written are answered.
     fn answer_settings(&mut self) -> ControlFlow<LastWord> {
         let mut r = [0; 26];
         read_further(&mut self.stdin, &mut r)?;
-        let room = usize::from(word_at::<u16, 2>(Order::Big, &r, 24));
-        let mut stops = [46; 4095];
-        let Some(out) = stops.get_mut(..room) else {
-            return ControlFlow::Break(LastWord::Refused);
-        };
-        next_if(answer_written(settings_in(r), out))
+        answer_room(r)
     }
 }
 

@@ -1,5 +1,5 @@
 -- The value of a line is found again from its figures. Assumes nothing.
-use Prim.Native.Nat.{ℕ, zero, suc, ◌+◌, ◌/◌, ◌%◌, ◌^◌, ◌≤◌, ◌<◌}
+use Prim.Native.Nat.{ℕ, zero, suc, ◌+◌, ◌*◌, ◌/◌, ◌%◌, ◌^◌, ◌≤◌, ◌<◌}
 use native.Mathlib.Nat.{pow-suc}
 use native.Mathlib.Omega.{arith}
 use mathlib.Core.Path.{◌≡◌, refl, sym, ap, subst, ◌∙◌}
@@ -8,20 +8,21 @@ use mathlib.Core.List.{List, [], ◌∷◌, ◌++◌, append_assoc}
 use mathlib.Core.Logic.{◌↔◌, inl, inr}
 use lib.Dec.{ltb}
 use lib.ListN.{length, get_or, drop, take, length-append}
-use lib.Seq.{take_at}
-use borrow.Author.Tests.{ltb-true, lt-ltb, ne_eqb}
-use Rattle.std.specs.Prelude.{Option, Some, None, Result, Ok, OkIff, ◌==◌}
+use lib.Seq.{take_at, take_all, get_or-append-add}
+use borrow.Author.Tests.{ltb-true, ltb-false, lt-ltb, ne_eqb}
+use Rattle.std.specs.Prelude.{Option, Some, Result, Ok, OkIff, ◌==◌}
 use Rattle.std.specs.Option.{option_map}
-use Rattle.std.specs.Result.{result_ok}
 use Rattle.std.specs.Char.{digit_value}
 use Rattle.std.specs.Str.{IsUtf8}
 use Rattle.std.specs.List.{position, position_or_len}
 use Rattle.std.specs.Str.Parse.{AllDigits, IsNumeral, digits_value, without_leading_plus, ParsesUnsigned}
 use Rattle.std.proofs.lemmas.Bool.Decides.{nat_tests}
-use Rattle.std.proofs.lemmas.Option.{none-some, same_Some}
+use Rattle.std.proofs.lemmas.Option.{same_Some}
 use Rattle.std.proofs.lemmas.Result.{Ok-from_Ok_iff}
 use Rattle.std.proofs.lemmas.Str.{IsUtf8-from_ascii}
-use Rattle.std.proofs.lemmas.Int.Digits.{digits_push, digits_value_push}
+use Rattle.std.proofs.lemmas.Int.Digits.{digits_push, digits_value_push, digits_value_more}
+use Rattle.std.proofs.lemmas.Str.Parse.{digits_value-take-le}
+use Rattle.std.proofs.lemmas.List.{get_or_append_left}
 use Rattle.words.proofs.Tests.{at_most, equal, both, either, decided}
 use Rattle.maintenance_pages.specs.declared.setting.Setting.{Setting}
 use Rattle.maintenance_pages.specs.declared.setting.Setting.TheVariants.{ReceiveId, TransmitId, Speed, Voltage, WarningLevel, FaultLevel}
@@ -124,24 +125,91 @@ module _ (base : ℕ) (s figures rest : List ℕ) (x : Begins base s figures res
       (subst (λ (t : List ℕ). OkIff r (IsNumeral base t × (digits_value base t < 2 ^ 32)) (digits_value base t)) (no_plus figures x.digits) p)
       (x.digits, x.small)
 
--- no line feed, no text before it, or the number that was read there
-pub no_feed_counts : (base : ℕ) (s : List ℕ) (found : Option ℕ) → base ≤ 36 → position (λ (b : ℕ). b == 10) s ≡ None → Counts base s found
-no_feed_counts base s found h e =
-    record { counted = λ figures rest d small same. absurd (none-some (length figures) (sym e ∙ feed_found base s figures rest (record { within = h; digits = d; small = small; same = same }))) }
+-- ---- the figures one by one
 
-pub no_text_counts : (base : ℕ) (s : List ℕ) (end : ℕ) (found : Option ℕ) → base ≤ 36 → position (λ (b : ℕ). b == 10) s ≡ Some end → (IsUtf8 (take end s) → ⊥) → Counts base s found
-no_text_counts base s end found h e wrong =
-    record {
-      counted = λ figures rest d small same. let x : Begins base s figures rest = record { within = h; digits = d; small = small; same = same } in
-          absurd (wrong (subst (λ (t : List ℕ). IsUtf8 t) (sym (figures_before base s figures rest x end e)) (figures_text base s figures rest x)));
-    }
+digit_at : (base : ℕ) (figures : List ℕ) (i : ℕ) → AllDigits base figures → i < length figures → digit_value (get_or figures i 0) < base
+digit_at base [] i d h = absurd (omega (arith, h))
+digit_at base (c ∷ cs) zero d h = d.0
+digit_at base (c ∷ cs) (suc i) d h = digit_at base cs i d.1 (omega (arith, h))
 
-pub parsed_counts : {E : Type 0} (base : ℕ) (s : List ℕ) (end : ℕ) (r : Result ℕ E) → base ≤ 36 → position (λ (b : ℕ). b == 10) s ≡ Some end → ParsesUnsigned 32 base (take end s) r → Counts base s (result_ok r)
-parsed_counts base s end r h e p =
-    record {
-      counted = λ figures rest d small same. let x : Begins base s figures rest = record { within = h; digits = d; small = small; same = same } in
-          ap result_ok (figures_parsed base s figures rest x r (subst (λ (t : List ℕ). ParsesUnsigned 32 base t r) (figures_before base s figures rest x end e) p));
-    }
+-- so many of them have been read, and this is their number
+abbrev pub Counting : ℕ → List ℕ → ℕ → ℕ → Type 0
+Counting base s i n = (figures rest : List ℕ) → Begins base s figures rest → (i ≤ length figures) × (n ≡ digits_value base (take i figures))
+
+pub counting_none : (base : ℕ) (s : List ℕ) → Counting base s 0 0
+counting_none base s = λ figures rest x. (omega arith, refl)
+
+module _ (base : ℕ) (s : List ℕ) (i n : ℕ) (within : base ≤ 36) (more : Counting base s i n) where
+  -- a byte that is no line feed is one of the figures
+  figure_there : (figures rest : List ℕ) → Begins base s figures rest → (get_or s i 0 ≡ 10 → ⊥) → (i < length figures) × (get_or s i 0 ≡ get_or figures i 0)
+  figure_there figures rest x other =
+      decided (ltb i (length figures))
+      (λ t. let h = ltb-true i (length figures) t in (h, ap (λ (l : List ℕ). get_or l i 0) x.same ∙ get_or_append_left figures (10 ∷ rest) 0 i h))
+      (λ t. let h = ltb-false i (length figures) t in
+      let m = (more figures rest x).0 in
+      let e : i ≡ length figures + 0 = omega (arith, h, m) in
+      absurd (other (ap (λ (l : List ℕ). get_or l i 0) x.same ∙ ap (λ (k : ℕ). get_or (figures ++ (10 ∷ rest)) k 0) e ∙ get_or-append-add figures (10 ∷ rest) 0 0)))
+
+  figure_digit : (figures rest : List ℕ) → Begins base s figures rest → (get_or s i 0 ≡ 10 → ⊥) → digit_value (get_or s i 0) < base
+  figure_digit figures rest x other =
+      let there = figure_there figures rest x other in
+      subst (λ (b : ℕ). digit_value b < base) (sym there.1) (digit_at base figures i x.digits.1 there.0)
+
+  figure_next : (figures rest : List ℕ) → Begins base s figures rest → (get_or s i 0 ≡ 10 → ⊥) → digits_value base (take (i + 1) figures) ≡ n * base + digit_value (get_or s i 0)
+  figure_next figures rest x other =
+      let there = figure_there figures rest x other in
+      digits_value_more base figures i there.0
+      ∙ ap (λ (k : ℕ). k * base + digit_value (get_or figures i 0)) (sym (more figures rest x).1)
+      ∙ ap (λ (b : ℕ). n * base + digit_value b) (sym there.1)
+
+  -- at the line feed all of them have been read
+  pub feed_counts : get_or s i 0 ≡ 10 → Counts base s (Some n)
+  feed_counts feed =
+      record {
+        counted = λ figures rest d small same. let x : Begins base s figures rest = record { within = within; digits = d; small = small; same = same } in
+            decided (ltb i (length figures))
+            (λ t. let h = ltb-true i (length figures) t in
+            let digit = digit_at base figures i d.1 h in
+            let figure : get_or s i 0 ≡ get_or figures i 0 = ap (λ (l : List ℕ). get_or l i 0) same ∙ get_or_append_left figures (10 ∷ rest) 0 i h in
+            let above = digit_within (get_or figures i 0) (omega (arith, digit, within)) in
+            absurd (omega (arith, feed, figure, above)))
+            (λ t. ap Some ((more figures rest x).1 ∙ ap (digits_value base) (take_all i figures (ltb-false i (length figures) t))));
+      }
+
+  -- there is no number where a byte is neither a figure nor the line feed,
+  pub other_counts : (found : Option ℕ) → (get_or s i 0 ≡ 10 → ⊥) → base ≤ digit_value (get_or s i 0) → Counts base s found
+  other_counts found other none =
+      record {
+        counted = λ figures rest d small same. let x : Begins base s figures rest = record { within = within; digits = d; small = small; same = same } in
+            let digit = figure_digit figures rest x other in
+            absurd (omega (arith, digit, none));
+      }
+
+  -- nor where there are more than 32 bits,
+  pub large_counts : (found : Option ℕ) → 1 ≤ base → (get_or s i 0 ≡ 10 → ⊥) → 2 ^ 32 ≤ n * base + digit_value (get_or s i 0) → Counts base s found
+  large_counts found some other large =
+      record {
+        counted = λ figures rest d small same. let x : Begins base s figures rest = record { within = within; digits = d; small = small; same = same } in
+            let next = figure_next figures rest x other in
+            let less = digits_value-take-le base figures (i + 1) some in
+            let few : digits_value base figures < 4294967296 = small in
+            let much : 4294967296 ≤ n * base + digit_value (get_or s i 0) = large in
+            absurd (omega (arith, next, less, few, much));
+      }
+
+  -- nor at the end of the bytes
+  pub end_counts : (found : Option ℕ) → length s ≤ i → Counts base s found
+  end_counts found past =
+      record {
+        counted = λ figures rest d small same. let x : Begins base s figures rest = record { within = within; digits = d; small = small; same = same } in
+            let m = (more figures rest x).0 in
+            let l = ap length same ∙ length-append figures (10 ∷ rest) in
+            absurd (omega (arith, past, m, l));
+      }
+
+  pub counting_more : (get_or s i 0 ≡ 10 → ⊥) → Counting base s (i + 1) (n * base + digit_value (get_or s i 0))
+  counting_more other = λ figures rest x.
+      (let there = figure_there figures rest x other in let h = there.0 in (omega (arith, h), sym (figure_next figures rest x other)))
 
 -- ---- the value of a line
 
@@ -236,11 +304,16 @@ value_back FaultLevel v l = refl
 figures_back : (setting : Setting) (v : ℕ) → may_hold setting v ≡ true → value_for setting (digits_value (base_of setting) (figures_of setting v)) ≡ v
 figures_back setting v l = ap (value_for setting) (figures_value setting v (shown_small setting v ((may_hold_lem setting v).0 l))) ∙ value_back setting v l
 
--- the value is found, whatever follows the line
-pub value_found : (setting : Setting) (v : ℕ) (s rest : List ℕ) (found : Option ℕ) → may_hold setting v ≡ true → Counts (base_of setting) (drop (width_of setting) s) found → s ≡ line_text setting v ++ rest → option_map (value_for setting) found ≡ Some v
+-- the value is found, whatever follows the line, and the number that shows it is below 2147483648
+pub value_found : (setting : Setting) (v : ℕ) (s rest : List ℕ) (found : Option ℕ) → may_hold setting v ≡ true → Counts (base_of setting) (drop (width_of setting) s) found → s ≡ line_text setting v ++ rest → (option_map (value_for setting) found ≡ Some v) × ((n : ℕ) → found ≡ Some n → n < 2147483648)
 value_found setting v s rest found l x e =
     let b = line_begins setting v s rest l e in
-    ap (option_map (value_for setting)) (x.counted (figures_of setting v) rest b.digits b.small b.same) ∙ ap Some (figures_back setting v l)
+    let there = x.counted (figures_of setting v) rest b.digits b.small b.same in
+    let few = shown_small setting v ((may_hold_lem setting v).0 l) in
+    let value = figures_value setting v few in (
+      ap (option_map (value_for setting)) there ∙ ap Some (figures_back setting v l),
+      λ n q. (let same = same_Some n (digits_value (base_of setting) (figures_of setting v)) (sym q ∙ there) in omega (arith, same, value, few)),
+    )
 
 -- two lines of a setting with anything after them: the same value
 pub values_apart : (setting : Setting) (v w : ℕ) (rest rest' : List ℕ) → may_hold setting v ≡ true → may_hold setting w ≡ true → line_text setting v ++ rest ≡ line_text setting w ++ rest' → v ≡ w

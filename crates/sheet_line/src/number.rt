@@ -1,6 +1,5 @@
 // The value that the figures of a line stand for. What is found is written back and compared, so nothing is accepted here.
-ghost use Rattle.std.specs.Prelude.{◌≡◌, ◌==◌, true, List, ◌++◌, ℕ, ◌≤◌, Some};
-ghost use Rattle.std.specs.List.{position};
+ghost use Rattle.std.specs.Prelude.{◌≡◌, true, List, ◌++◌, ℕ, ◌≤◌, Some};
 ghost use Rattle.sheet_line.specs.Lines.{may_hold, line_text};
 ghost use Rattle.sheet_line.specs.Number.{base_of, value_for, Counts};
 
@@ -18,20 +17,21 @@ fn base_of(setting: Setting) -> u32
     }
 }
 
-// The place of the first line feed.
-fn line_end(s: &[u8]) -> Option<usize>
-    ensures { result ≡ position (λ byte. byte == 10) s.now }
-{
-    s.iter().position(|&byte| byte == b'\n')
-}
-
-// The number of the figures before the first line feed.
+// The number of the figures before the first line feed. Nothing is looked at past a byte that is no figure, or past a
+// figure that makes more than 32 bits, so that a long row of bytes takes no longer than a line.
 fn number(s: &[u8], setting: Setting) -> Option<u32>
     ensures { Counts (base_of setting) s.now result }
 {
-    let end = line_end(s)?;
-    let figures = str::from_utf8(&s[..end]).ok()?;
-    u32::from_str_radix(figures, base_of(setting)).ok()
+    let base = base_of(setting);
+    let mut n: u32 = 0;
+    for byte in s {
+        if *byte == b'\n' {
+            return Some(n);
+        }
+        let figure = char::from(*byte).to_digit(base)?;
+        n = n.checked_mul(base)?.checked_add(figure)?;
+    }
+    None
 }
 
 // The value that is shown as a number.

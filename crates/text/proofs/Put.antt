@@ -64,7 +64,7 @@ then {d} {e} {f} {at} {p} {r} {t} {u} h x y =
 -- ---- bytes stored in a row
 
 -- one more byte, at the next place
-and_one : (d e : List ℕ) (at : ℕ) (t : List ℕ) (v : ℕ) → e ≡ sets d at t → set e (at + length t) v ≡ sets d at (t ++ (v ∷ []))
+pub and_one : (d e : List ℕ) (at : ℕ) (t : List ℕ) (v : ℕ) → e ≡ sets d at t → set e (at + length t) v ≡ sets d at (t ++ (v ∷ []))
 and_one d e at t v q = ap (λ (l : List ℕ). set l (at + length t) v) q ∙ sym (sets_append d at t (v ∷ []))
 
 -- ---- a text byte by byte

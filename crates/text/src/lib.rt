@@ -107,11 +107,28 @@ impl<'a> Text<'a> {
         self.at = self.at.saturating_add(1);
     }
 
-    pub fn bytes(&mut self, text: &[u8])
+    fn one_by_one(&mut self, text: &[u8])
         ensures { Puts self.old text.now self.new }
     {
         for b in text {
             self.byte(*b);
+        }
+    }
+
+    // One test of the place for all of them where they fit.
+    #[tactic(auto, using(crate::proofs::Put::stored_next))]
+    pub fn bytes(&mut self, text: &[u8])
+        ensures { Puts self.old text.now self.new }
+    {
+        let room = self.has_room(text.len());
+        if room {
+            let at = self.at;
+            for (i, b) in text.iter().enumerate() {
+                self.out[at + i] = *b;
+            }
+            self.at += text.len();
+        } else {
+            self.one_by_one(text);
         }
     }
 
@@ -129,7 +146,7 @@ impl<'a> Text<'a> {
             }
             self.at += N;
         } else {
-            self.bytes(&row);
+            self.one_by_one(&row);
         }
     }
 
@@ -142,10 +159,13 @@ impl<'a> Text<'a> {
         self.row([b' ', hex_figure(n as u32 / 16), hex_figure(n as u32)]);
     }
 
+    // In two rows of four: eight figures at once are put together in one word first, and taken out of it again.
     pub fn hex8(&mut self, n: u32)
         ensures { Puts self.old (hexadecimal 8 n) self.new }
     {
-        self.row(hex_figures(n));
+        let [a, b, c, d, e, f, g, h] = hex_figures(n);
+        self.row([a, b, c, d]);
+        self.row([e, f, g, h]);
     }
 
     // All eight figures after one space.

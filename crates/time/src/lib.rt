@@ -1,8 +1,9 @@
-// Two units of time, kept apart: milliseconds of the bench and ticks of the uptime. Nothing else turns stamps into ticks.
+// Two units of time, kept apart: milliseconds of the bench and ticks of the uptime. Stamps are compared here, and nothing
+// else turns stamps into ticks.
 #![tactic(auto)]
 
 ghost use Rattle.std.specs.Prelude.{◌≡◌};
-ghost use Rattle.time.specs.Times.{past_limit, ticks_between};
+ghost use Rattle.time.specs.Times.{earlier, past_limit, ticks_between};
 
 // A moment on the bench's clock, in milliseconds. An earlier one is less.
 #[derive(Clone, Copy, PartialEq, Eq, PartialOrd, Ord, Debug)]
@@ -13,6 +14,12 @@ pub struct Stamp(pub u32);
 pub struct Ticks(pub u32);
 
 impl Stamp {
+    pub fn is_earlier(self, other: Stamp) -> bool
+        ensures { result ≡ earlier self other }
+    {
+        self < other
+    }
+
     // Whether more than so many milliseconds lie between a stamp and this one.
     pub fn is_past(self, since: Stamp, limit: u32) -> bool
         ensures { result ≡ past_limit since limit self }

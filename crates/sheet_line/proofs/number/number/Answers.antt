@@ -1,21 +1,47 @@
--- `sheet_line::number::number` meets its contract: what stands before the first line feed, parsed. Assumes nothing.
-use Rattle.std.proofs.Common.{rules, sym, subst, ◌∙◌, ◌≡◌, take, ℕ, List}
-use Rattle.std.specs.Str.{IsUtf8}
-use Rattle.std.specs.Str.Parse.{ParsesUnsigned}
+-- `sheet_line::number::number` meets its contract: the figures before the line feed, one by one. Assumes nothing.
+use Rattle.std.proofs.Common.{arith, ap, ◌∙◌, ◌≡◌, ℕ, ◌+◌, ◌*◌, get_or}
+use Rattle.std.specs.Char.{digit_value}
 use Rattle.sheet_line.specs.Number.{base_of}
-use Rattle.sheet_line.proofs.Numbers.{no_feed_counts, no_text_counts, parsed_counts, base_within}
+use Rattle.sheet_line.proofs.Numbers.{feed_counts, other_counts, large_counts, counting_more, base_within}
 use Rattle.sheet_line.proofs.number.number.Goals as goal
 
-pub returns-in_err-end : goal.returns-in_err-end
-returns-in_err-end c = no_feed_counts (base_of c.args.setting) c.args.s.now _ (base_within c.args.setting) (sym c.line_end.ensures ∙ c.in_err-end.was)
+pub returns-then-byte-eq10 : goal.returns-then-byte-eq10
+returns-then-byte-eq10 c = feed_counts (base_of c.args.setting) c.args.s.now c.loop-byte.byte-index c.loop-byte.n (base_within c.args.setting) c.loop-byte.invariant c.if-byte-eq10.true
 
-pub returns-in_err-figures : goal.returns-in_err-figures
-returns-in_err-figures c =
-    no_text_counts (base_of c.args.setting) c.args.s.now c.in_ok-end.end _ (base_within c.args.setting) (sym c.line_end.ensures ∙ c.in_ok-end.was)
-    (let wrong : IsUtf8 (take c.in_ok-end.end c.args.s.now) → ⊥ = search rules in wrong)
+pub returns-in_err-figure : goal.returns-in_err-figure
+returns-in_err-figure c =
+    let base = c.base_of-base.ensures.base in
+    let digit = ap digit_value c.from.ensures in
+    let none = c.in_err-figure.ensures.value in
+    other_counts (base_of c.args.setting) c.args.s.now c.loop-byte.byte-index c.loop-byte.n (base_within c.args.setting) c.loop-byte.invariant _ c.if-byte-eq10.false (omega (arith, base, digit, none))
 
-pub returns : goal.returns
-returns c =
-    let same : c.in_ok-figures.figures.now ≡ take c.in_ok-end.end c.args.s.now = search rules in
-    rw c.ok-2.ensures.value (parsed_counts (base_of c.args.setting) c.args.s.now c.in_ok-end.end c.from_str_radix.result (base_within c.args.setting) (sym c.line_end.ensures ∙ c.in_ok-end.was)
-    (subst (λ (t : List ℕ). ParsesUnsigned 32 (base_of c.args.setting) t c.from_str_radix.result) same (subst (λ (b : ℕ). ParsesUnsigned 32 b c.in_ok-figures.figures.now c.from_str_radix.result) c.base_of.ensures.base c.from_str_radix.ensures.value)))
+pub returns-in_err-checked_mul : goal.returns-in_err-checked_mul
+returns-in_err-checked_mul c =
+    let base = c.base_of-base.ensures in
+    let some = base.least in
+    let product = ap (λ (b : ℕ). c.loop-byte.n * b) base.base in
+    let none = c.in_err-checked_mul.ensures in
+    large_counts (base_of c.args.setting) c.args.s.now c.loop-byte.byte-index c.loop-byte.n (base_within c.args.setting) c.loop-byte.invariant _ (let e = base.base in omega (arith, e, some)) c.if-byte-eq10.false (omega (arith, product, none))
+
+pub returns-in_err-n : goal.returns-in_err-n
+returns-in_err-n c =
+    let base = c.base_of-base.ensures in
+    let some = base.least in
+    let product = ap (λ (b : ℕ). c.loop-byte.n * b) base.base in
+    let digit = ap digit_value c.from.ensures in
+    let is_product = c.in_ok-checked_mul.ensures.1 in
+    let is_digit = c.in_ok-figure.ensures.value.1 in
+    let none = c.in_err-n.ensures in
+    large_counts (base_of c.args.setting) c.args.s.now c.loop-byte.byte-index c.loop-byte.n (base_within c.args.setting) c.loop-byte.invariant _ (let e = base.base in omega (arith, e, some)) c.if-byte-eq10.false
+    (omega (arith, product, digit, is_product, is_digit, none))
+
+pub loop-byte-preserved : goal.loop-byte-preserved
+loop-byte-preserved c = λ figures rest x.
+    (let product = ap (λ (b : ℕ). c.loop-byte.n * b) c.base_of-base.ensures.base in
+    let digit = ap digit_value c.from.ensures in
+    let is_product = c.in_ok-checked_mul.ensures.1 in
+    let is_digit = c.in_ok-figure.ensures.value.1 in
+    let is_sum = c.in_ok-n.ensures.1 in
+    let sum : c.in_ok-n.n ≡ c.loop-byte.n * base_of c.args.setting + digit_value (get_or c.args.s.now c.loop-byte.byte-index 0) = omega (arith, product, digit, is_product, is_digit, is_sum) in
+    let more = counting_more (base_of c.args.setting) c.args.s.now c.loop-byte.byte-index c.loop-byte.n (base_within c.args.setting) c.loop-byte.invariant c.if-byte-eq10.false figures rest x in
+    (more.0, sum ∙ more.1))
