@@ -9,17 +9,14 @@ use mathlib.Core.Logic.{◌↔◌, inl, inr}
 use lib.Dec.{ltb}
 use lib.ListN.{length, get_or, drop, take, length-append}
 use lib.Seq.{take_at, take_all, get_or-append-add}
-use borrow.Author.Tests.{ltb-true, ltb-false, lt-ltb, ne_eqb}
-use Rattle.std.specs.Prelude.{Option, Some, Result, Ok, OkIff, ◌==◌}
+use borrow.Author.Tests.{ltb-true, ltb-false, lt-ltb}
+use Rattle.std.specs.Prelude.{Option, Some, ◌==◌}
 use Rattle.std.specs.Option.{option_map}
 use Rattle.std.specs.Char.{digit_value}
-use Rattle.std.specs.Str.{IsUtf8}
 use Rattle.std.specs.List.{position, position_or_len}
-use Rattle.std.specs.Str.Parse.{AllDigits, IsNumeral, digits_value, without_leading_plus, ParsesUnsigned}
+use Rattle.std.specs.Str.Parse.{AllDigits, IsNumeral, digits_value}
 use Rattle.std.proofs.lemmas.Bool.Decides.{nat_tests}
 use Rattle.std.proofs.lemmas.Option.{same_Some}
-use Rattle.std.proofs.lemmas.Result.{Ok-from_Ok_iff}
-use Rattle.std.proofs.lemmas.Str.{IsUtf8-from_ascii}
 use Rattle.std.proofs.lemmas.Int.Digits.{digits_push, digits_value_push, digits_value_more}
 use Rattle.std.proofs.lemmas.Str.Parse.{digits_value-take-le}
 use Rattle.std.proofs.lemmas.List.{get_or_append_left}
@@ -97,11 +94,6 @@ feed_place : (base : ℕ) (figures rest : List ℕ) → base ≤ 36 → AllDigit
 feed_place base [] rest h d = refl
 feed_place base (c ∷ cs) rest h d = rw (no_feed c (let first = d.0 in omega (arith, first, h))) (let more = feed_place base cs rest h d.1 in omega (arith, more))
 
-digits_ascii : (base : ℕ) (figures : List ℕ) → base ≤ 36 → AllDigits base figures → (i : ℕ) → get_or figures i 0 < 128
-digits_ascii base [] h d i = omega arith
-digits_ascii base (c ∷ cs) h d zero = let first = d.0 in let b = digit_within c (omega (arith, first, h)) in omega (arith, b)
-digits_ascii base (c ∷ cs) h d (suc i) = digits_ascii base cs h d.1 i
-
 module _ (base : ℕ) (s figures rest : List ℕ) (x : Begins base s figures rest) where
   feed_at : position_or_len (λ (b : ℕ). b == 10) s ≡ length figures
   feed_at = ap (position_or_len (λ (b : ℕ). b == 10)) x.same ∙ feed_place base figures rest x.within x.digits.1
@@ -111,19 +103,6 @@ module _ (base : ℕ) (s figures rest : List ℕ) (x : Begins base s figures res
 
   pub figures_before : (end : ℕ) → position (λ (b : ℕ). b == 10) s ≡ Some end → take end s ≡ figures
   figures_before end e = ap (λ (t : List ℕ). take end t) x.same ∙ take_at figures (10 ∷ rest) end (sym (same_Some end (length figures) (sym e ∙ feed_found)))
-
-  pub figures_text : IsUtf8 figures
-  figures_text = IsUtf8-from_ascii figures (digits_ascii base figures x.within x.digits.1)
-
-  no_plus : (figures : List ℕ) → IsNumeral base figures → without_leading_plus figures ≡ figures
-  no_plus [] d = absurd (let some = d.0 in omega (arith, some))
-  no_plus (c ∷ cs) d = let first = d.1.0 in let within = x.within in let b = digit_within c (omega (arith, first, within)) in rw (ne_eqb c 43 (λ e. omega (arith, b, e))) refl
-
-  pub figures_parsed : {E : Type 0} (r : Result ℕ E) → ParsesUnsigned 32 base figures r → r ≡ Ok (digits_value base figures)
-  figures_parsed r p =
-      Ok-from_Ok_iff r (IsNumeral base figures × (digits_value base figures < 2 ^ 32)) (digits_value base figures)
-      (subst (λ (t : List ℕ). OkIff r (IsNumeral base t × (digits_value base t < 2 ^ 32)) (digits_value base t)) (no_plus figures x.digits) p)
-      (x.digits, x.small)
 
 -- ---- the figures one by one
 
@@ -135,9 +114,6 @@ digit_at base (c ∷ cs) (suc i) d h = digit_at base cs i d.1 (omega (arith, h))
 -- so many of them have been read, and this is their number
 abbrev pub Counting : ℕ → List ℕ → ℕ → ℕ → Type 0
 Counting base s i n = (figures rest : List ℕ) → Begins base s figures rest → (i ≤ length figures) × (n ≡ digits_value base (take i figures))
-
-pub counting_none : (base : ℕ) (s : List ℕ) → Counting base s 0 0
-counting_none base s = λ figures rest x. (omega arith, refl)
 
 module _ (base : ℕ) (s : List ℕ) (i n : ℕ) (within : base ≤ 36) (more : Counting base s i n) where
   -- a byte that is no line feed is one of the figures
@@ -185,7 +161,7 @@ module _ (base : ℕ) (s : List ℕ) (i n : ℕ) (within : base ≤ 36) (more : 
             absurd (omega (arith, digit, none));
       }
 
-  -- nor where there are more than 32 bits,
+  -- nor where there are more than 32 bits
   pub large_counts : (found : Option ℕ) → 1 ≤ base → (get_or s i 0 ≡ 10 → ⊥) → 2 ^ 32 ≤ n * base + digit_value (get_or s i 0) → Counts base s found
   large_counts found some other large =
       record {
@@ -197,16 +173,7 @@ module _ (base : ℕ) (s : List ℕ) (i n : ℕ) (within : base ≤ 36) (more : 
             absurd (omega (arith, next, less, few, much));
       }
 
-  -- nor at the end of the bytes
-  pub end_counts : (found : Option ℕ) → length s ≤ i → Counts base s found
-  end_counts found past =
-      record {
-        counted = λ figures rest d small same. let x : Begins base s figures rest = record { within = within; digits = d; small = small; same = same } in
-            let m = (more figures rest x).0 in
-            let l = ap length same ∙ length-append figures (10 ∷ rest) in
-            absurd (omega (arith, past, m, l));
-      }
-
+  -- one figure more
   pub counting_more : (get_or s i 0 ≡ 10 → ⊥) → Counting base s (i + 1) (n * base + digit_value (get_or s i 0))
   counting_more other = λ figures rest x.
       (let there = figure_there figures rest x other in let h = there.0 in (omega (arith, h), sym (figure_next figures rest x other)))
