@@ -10,7 +10,8 @@ use lib.Dec.{ltb}
 use lib.ListN.{length, get_or, drop, take, length-append}
 use lib.Seq.{take_at, take_all, get_or-append-add}
 use borrow.Author.Tests.{ltb-true, ltb-false, lt-ltb}
-use Rattle.std.specs.Prelude.{Option, Some, ◌==◌}
+use Rattle.std.specs.Prelude.{Option, Some, None, ◌==◌}
+use Rattle.std.proofs.Common.{below_more}
 use Rattle.std.specs.Option.{option_map}
 use Rattle.std.specs.Char.{digit_value}
 use Rattle.std.specs.List.{position, position_or_len}
@@ -111,9 +112,16 @@ digit_at base [] i d h = absurd (omega (arith, h))
 digit_at base (c ∷ cs) zero d h = d.0
 digit_at base (c ∷ cs) (suc i) d h = digit_at base cs i d.1 (omega (arith, h))
 
--- so many of them have been read, and this is their number
-abbrev pub Counting : ℕ → List ℕ → ℕ → ℕ → Type 0
-Counting base s i n = (figures rest : List ℕ) → Begins base s figures rest → (i ≤ length figures) × (n ≡ digits_value base (take i figures))
+-- so many of them have been read, each is a figure, and this is their number
+pub record Counting (base : ℕ) (s : List ℕ) (i n : ℕ) : Type 0 where
+  pub figures : (k : ℕ) → k < i → digit_value (get_or s k 0) < base
+  pub number : (figures rest : List ℕ) → Begins base s figures rest → (i ≤ length figures) × (n ≡ digits_value base (take i figures))
+
+byte_after : (s figures rest : List ℕ) (c : ℕ) → s ≡ figures ++ (c ∷ rest) → get_or s (length figures) 0 ≡ c
+byte_after s figures rest c same =
+    ap (λ (l : List ℕ). get_or l (length figures) 0) same
+    ∙ ap (λ (k : ℕ). get_or (figures ++ (c ∷ rest)) k 0) (let e : length figures ≡ length figures + 0 = omega arith in e)
+    ∙ get_or-append-add figures (c ∷ rest) 0 0
 
 module _ (base : ℕ) (s : List ℕ) (i n : ℕ) (within : base ≤ 36) (more : Counting base s i n) where
   -- a byte that is no line feed is one of the figures
@@ -122,7 +130,7 @@ module _ (base : ℕ) (s : List ℕ) (i n : ℕ) (within : base ≤ 36) (more : 
       decided (ltb i (length figures))
       (λ t. let h = ltb-true i (length figures) t in (h, ap (λ (l : List ℕ). get_or l i 0) x.same ∙ get_or_append_left figures (10 ∷ rest) 0 i h))
       (λ t. let h = ltb-false i (length figures) t in
-      let m = (more figures rest x).0 in
+      let m = (more.number figures rest x).0 in
       let e : i ≡ length figures + 0 = omega (arith, h, m) in
       absurd (other (ap (λ (l : List ℕ). get_or l i 0) x.same ∙ ap (λ (k : ℕ). get_or (figures ++ (10 ∷ rest)) k 0) e ∙ get_or-append-add figures (10 ∷ rest) 0 0)))
 
@@ -135,7 +143,7 @@ module _ (base : ℕ) (s : List ℕ) (i n : ℕ) (within : base ≤ 36) (more : 
   figure_next figures rest x other =
       let there = figure_there figures rest x other in
       digits_value_more base figures i there.0
-      ∙ ap (λ (k : ℕ). k * base + digit_value (get_or figures i 0)) (sym (more figures rest x).1)
+      ∙ ap (λ (k : ℕ). k * base + digit_value (get_or figures i 0)) (sym (more.number figures rest x).1)
       ∙ ap (λ (b : ℕ). n * base + digit_value b) (sym there.1)
 
   -- at the line feed all of them have been read
@@ -149,21 +157,37 @@ module _ (base : ℕ) (s : List ℕ) (i n : ℕ) (within : base ≤ 36) (more : 
             let figure : get_or s i 0 ≡ get_or figures i 0 = ap (λ (l : List ℕ). get_or l i 0) same ∙ get_or_append_left figures (10 ∷ rest) 0 i h in
             let above = digit_within (get_or figures i 0) (omega (arith, digit, within)) in
             absurd (omega (arith, feed, figure, above)))
-            (λ t. ap Some ((more figures rest x).1 ∙ ap (digits_value base) (take_all i figures (ltb-false i (length figures) t))));
+            (λ t. ap Some ((more.number figures rest x).1 ∙ ap (digits_value base) (take_all i figures (ltb-false i (length figures) t))));
+        other = λ figures rest c d other none same.
+            let at : get_or s (length figures) 0 ≡ c = byte_after s figures rest c same in
+            absurd
+            (decided (ltb i (length figures))
+            (λ t. let h = ltb-true i (length figures) t in
+            let digit = digit_at base figures i d h in
+            let figure : get_or s i 0 ≡ get_or figures i 0 = ap (λ (l : List ℕ). get_or l i 0) same ∙ get_or_append_left figures (c ∷ rest) 0 i h in
+            let above = digit_within (get_or figures i 0) (omega (arith, digit, within)) in
+            omega (arith, feed, figure, above))
+            (λ t. let h = ltb-false i (length figures) t in
+            decided (ltb (length figures) i)
+            (λ u. none (subst (λ (b : ℕ). digit_value b < base) at (more.figures (length figures) (ltb-true (length figures) i u))))
+            (λ u. let g = ltb-false (length figures) i u in
+            let e : i ≡ length figures = omega (arith, h, g) in
+            other (sym at ∙ ap (λ (k : ℕ). get_or s k 0) (sym e) ∙ feed))));
       }
 
   -- there is no number where a byte is neither a figure nor the line feed,
-  pub other_counts : (found : Option ℕ) → (get_or s i 0 ≡ 10 → ⊥) → base ≤ digit_value (get_or s i 0) → Counts base s found
-  other_counts found other none =
+  pub other_counts : (get_or s i 0 ≡ 10 → ⊥) → base ≤ digit_value (get_or s i 0) → Counts base s None
+  other_counts other none =
       record {
         counted = λ figures rest d small same. let x : Begins base s figures rest = record { within = within; digits = d; small = small; same = same } in
             let digit = figure_digit figures rest x other in
             absurd (omega (arith, digit, none));
+        other = λ _ _ _ _ _ _ _. refl;
       }
 
   -- nor where there are more than 32 bits
-  pub large_counts : (found : Option ℕ) → 1 ≤ base → (get_or s i 0 ≡ 10 → ⊥) → 2 ^ 32 ≤ n * base + digit_value (get_or s i 0) → Counts base s found
-  large_counts found some other large =
+  pub large_counts : 1 ≤ base → (get_or s i 0 ≡ 10 → ⊥) → 2 ^ 32 ≤ n * base + digit_value (get_or s i 0) → Counts base s None
+  large_counts some other large =
       record {
         counted = λ figures rest d small same. let x : Begins base s figures rest = record { within = within; digits = d; small = small; same = same } in
             let next = figure_next figures rest x other in
@@ -171,12 +195,16 @@ module _ (base : ℕ) (s : List ℕ) (i n : ℕ) (within : base ≤ 36) (more : 
             let few : digits_value base figures < 4294967296 = small in
             let much : 4294967296 ≤ n * base + digit_value (get_or s i 0) = large in
             absurd (omega (arith, next, less, few, much));
+        other = λ _ _ _ _ _ _ _. refl;
       }
 
   -- one figure more
-  pub counting_more : (get_or s i 0 ≡ 10 → ⊥) → Counting base s (i + 1) (n * base + digit_value (get_or s i 0))
-  counting_more other = λ figures rest x.
-      (let there = figure_there figures rest x other in let h = there.0 in (omega (arith, h), sym (figure_next figures rest x other)))
+  pub counting_more : (get_or s i 0 ≡ 10 → ⊥) → digit_value (get_or s i 0) < base → Counting base s (i + 1) (n * base + digit_value (get_or s i 0))
+  counting_more other digit =
+      record {
+        figures = below_more _ _ more.figures digit;
+        number = λ figures rest x. (let there = figure_there figures rest x other in let h = there.0 in (omega (arith, h), sym (figure_next figures rest x other)));
+      }
 
 -- ---- the value of a line
 

@@ -1,6 +1,7 @@
 -- How the value of a line is looked for. None of it has to be believed: what is found is written back and compared with the line.
-use Rattle.std.specs.Prelude.{ℕ, ◌+◌, ◌^◌, ◌<◌, ◌≡◌, Some, Option, cond, List, ◌∷◌, ◌++◌, eqb, length}
-use Rattle.std.specs.Str.Parse.{IsNumeral, digits_value}
+use Rattle.std.specs.Prelude.{ℕ, ◌+◌, ◌^◌, ◌<◌, ◌≡◌, Some, None, Option, cond, List, ◌∷◌, ◌++◌, eqb, length}
+use Rattle.std.specs.Char.{digit_value}
+use Rattle.std.specs.Str.Parse.{AllDigits, IsNumeral, digits_value}
 use Rattle.maintenance_pages.specs.declared.setting.Setting.{Setting}
 use Rattle.maintenance_pages.specs.declared.setting.Setting.TheVariants.{ReceiveId, TransmitId, Speed, Voltage, WarningLevel, FaultLevel}
 use Rattle.sheet_line.specs.Lines.{name_of}
@@ -30,6 +31,7 @@ value_for Voltage n = n
 value_for WarningLevel n = n
 value_for FaultLevel n = n
 
--- the number of the figures before the first line feed, where a number of 32 bits stands there
+-- the number of the figures before the first line feed, where a number of 32 bits stands there, and none where another byte stands before it
 pub record Counts (base : ℕ) (t : List ℕ) (found : Option ℕ) : Type 0 where
   pub counted : (figures rest : List ℕ) → IsNumeral base figures → digits_value base figures < 2 ^ 32 → t ≡ figures ++ (10 ∷ rest) → found ≡ Some (digits_value base figures)
+  pub other : (figures rest : List ℕ) (c : ℕ) → AllDigits base figures → (c ≡ 10 → ⊥) → (digit_value c < base → ⊥) → t ≡ figures ++ (c ∷ rest) → found ≡ None

@@ -40,6 +40,8 @@ fn figures(text: &mut Text, setting: Setting, value: u32)
     }
 }
 
+// Compiled into its callers: each line that is read is put again, to be compared.
+#[inline(always)]
 pub fn line(text: &mut Text, setting: Setting, value: u32)
     ensures { Puts text.old (line_text setting value) text.new }
 {
