@@ -105,8 +105,7 @@ fn settings_in(r: [u8; 26]) -> Settings
     }
 }
 
-// A buffer of full stops is lent. It stands in a function of its own, since one that returns before it has made the buffer
-// has made it twice.
+// A buffer of full stops is lent. A function that may return before it makes a buffer clears it first, so this one is apart.
 fn answer_room(r: [u8; 26]) -> ControlFlow<LastWord> {
     let mut stops = [46; 4095];
     let room = usize::from(word_at::<u16, 2>(Order::Big, &r, 24));

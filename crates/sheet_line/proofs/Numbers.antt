@@ -146,33 +146,32 @@ module _ (base : ℕ) (s : List ℕ) (i n : ℕ) (within : base ≤ 36) (more : 
       ∙ ap (λ (k : ℕ). k * base + digit_value (get_or figures i 0)) (sym (more.number figures rest x).1)
       ∙ ap (λ (b : ℕ). n * base + digit_value b) (sym there.1)
 
+  -- the figures that the bytes begin with are before a line feed
+  before_feed : (figures rest : List ℕ) (c : ℕ) → get_or s i 0 ≡ 10 → AllDigits base figures → s ≡ figures ++ (c ∷ rest) → length figures ≤ i
+  before_feed figures rest c feed d same =
+      decided (ltb i (length figures))
+      (λ t. let h = ltb-true i (length figures) t in
+      let digit = digit_at base figures i d h in
+      let figure : get_or s i 0 ≡ get_or figures i 0 = ap (λ (l : List ℕ). get_or l i 0) same ∙ get_or_append_left figures (c ∷ rest) 0 i h in
+      let above = digit_within (get_or figures i 0) (omega (arith, digit, within)) in
+      absurd (omega (arith, feed, figure, above)))
+      (λ t. ltb-false i (length figures) t)
+
   -- at the line feed all of them have been read
   pub feed_counts : get_or s i 0 ≡ 10 → Counts base s (Some n)
   feed_counts feed =
       record {
         counted = λ figures rest d small same. let x : Begins base s figures rest = record { within = within; digits = d; small = small; same = same } in
-            decided (ltb i (length figures))
-            (λ t. let h = ltb-true i (length figures) t in
-            let digit = digit_at base figures i d.1 h in
-            let figure : get_or s i 0 ≡ get_or figures i 0 = ap (λ (l : List ℕ). get_or l i 0) same ∙ get_or_append_left figures (10 ∷ rest) 0 i h in
-            let above = digit_within (get_or figures i 0) (omega (arith, digit, within)) in
-            absurd (omega (arith, feed, figure, above)))
-            (λ t. ap Some ((more.number figures rest x).1 ∙ ap (digits_value base) (take_all i figures (ltb-false i (length figures) t))));
+            ap Some ((more.number figures rest x).1 ∙ ap (digits_value base) (take_all i figures (before_feed figures rest 10 feed d.1 same)));
         other = λ figures rest c d other none same.
             let at : get_or s (length figures) 0 ≡ c = byte_after s figures rest c same in
+            let h = before_feed figures rest c feed d same in
             absurd
-            (decided (ltb i (length figures))
-            (λ t. let h = ltb-true i (length figures) t in
-            let digit = digit_at base figures i d h in
-            let figure : get_or s i 0 ≡ get_or figures i 0 = ap (λ (l : List ℕ). get_or l i 0) same ∙ get_or_append_left figures (c ∷ rest) 0 i h in
-            let above = digit_within (get_or figures i 0) (omega (arith, digit, within)) in
-            omega (arith, feed, figure, above))
-            (λ t. let h = ltb-false i (length figures) t in
-            decided (ltb (length figures) i)
-            (λ u. none (subst (λ (b : ℕ). digit_value b < base) at (more.figures (length figures) (ltb-true (length figures) i u))))
-            (λ u. let g = ltb-false (length figures) i u in
+            (decided (ltb (length figures) i)
+            (λ t. none (subst (λ (b : ℕ). digit_value b < base) at (more.figures (length figures) (ltb-true (length figures) i t))))
+            (λ t. let g = ltb-false (length figures) i t in
             let e : i ≡ length figures = omega (arith, h, g) in
-            other (sym at ∙ ap (λ (k : ℕ). get_or s k 0) (sym e) ∙ feed))));
+            other (sym at ∙ ap (λ (k : ℕ). get_or s k 0) (sym e) ∙ feed)));
       }
 
   -- there is no number where a byte is neither a figure nor the line feed,

@@ -31,7 +31,8 @@ value_for Voltage n = n
 value_for WarningLevel n = n
 value_for FaultLevel n = n
 
--- the number of the figures before the first line feed, where a number of 32 bits stands there, and none where another byte stands before it
+-- the number of the figures before the first line feed, where a number of 32 bits stands there, and none where another byte stands
+-- before it
 pub record Counts (base : ℕ) (t : List ℕ) (found : Option ℕ) : Type 0 where
   pub counted : (figures rest : List ℕ) → IsNumeral base figures → digits_value base figures < 2 ^ 32 → t ≡ figures ++ (10 ∷ rest) → found ≡ Some (digits_value base figures)
   pub other : (figures rest : List ℕ) (c : ℕ) → AllDigits base figures → (c ≡ 10 → ⊥) → (digit_value c < base → ⊥) → t ≡ figures ++ (c ∷ rest) → found ≡ None

@@ -82,6 +82,11 @@ by_places n =
     (same_row (ap (λ (k : ℕ). figure (k % 16)) (let e : n / 0x1000 ≡ n / 16 / 16 / 16 = omega arith in e))
     (same_row (ap (λ (k : ℕ). figure (k % 16)) (let e : n / 0x100 ≡ n / 16 / 16 = omega arith in e)) refl)))))
 
+-- and all eight taken from their list
+pub eight_listed : (f : List ℕ) (n : ℕ) → f ≡ hexadecimal 8 n → get_or f 0 0 ∷ get_or f 1 0 ∷ get_or f 2 0 ∷ get_or f 3 0 ∷ get_or f 4 0 ∷ get_or f 5 0 ∷ get_or f 6 0 ∷ get_or f 7 0 ∷ [] ≡ hexadecimal 8 n
+unfolding hexadecimal
+eight_listed f n e = ap (λ (g : List ℕ). get_or g 0 0 ∷ get_or g 1 0 ∷ get_or g 2 0 ∷ get_or g 3 0 ∷ get_or g 4 0 ∷ get_or g 5 0 ∷ get_or g 6 0 ∷ get_or g 7 0 ∷ []) e
+
 -- ---- how many figures
 
 one_more : (t : List ℕ) (b : ℕ) → length (t ++ (b ∷ [])) ≡ length t + 1

@@ -28,6 +28,14 @@ nothing a = record { same = refl; there = nothing_put a.out.now a.at a.counted }
 pub one_more : (a b c : Text) (l : List ℕ) (i : ℕ) → i < length l → Puts a (take i l) b → Puts b (get_or l i 0 ∷ []) c → Puts a (take (i + 1) l) c
 one_more a b c l i h x y = puts_as (sym (take_next l i h)) (then x y)
 
+-- so many bytes of a row have been stored from a place on, and the text is where it was
+abbrev pub Stored : Text → ℕ → List ℕ → ℕ → Text → Type 0
+Stored before at row i now = record {
+  same : now.out.ghost_name ≡ before.out.ghost_name;
+  stays : now.at ≡ at;
+  stored : now.out.now ≡ sets before.out.now at (take i row);
+}
+
 -- what the lent buffer holds once the text is done
 pub given_back : {lent : MutBor (List ℕ)} {at : ℕ} {a b : Text} {t x : List ℕ} {n : ℕ} → Begins lent at a → Puts a t b → (lent.ghost_name ≡ b.out.ghost_name → x ≡ b.out.now) → n ≡ b.at → Put lent.now at t n x
 given_back {lent} {at} {a} {b} {t} {x} {n} begun put ends e =

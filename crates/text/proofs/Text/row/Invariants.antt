@@ -1,12 +1,6 @@
 -- `text::Text::row` meets its contract: the bytes so far were stored. Assumes nothing.
-use mathlib.Core.Path.{◌≡◌}
-use lib.ListN.{take}
-use lib.Seq.{sets}
+use Rattle.text.proofs.Puts.{Stored}
 use Rattle.text.proofs.Text.row.Given as goal
 
 abbrev pub invariant-loop-i : goal.invariant-loop-i
-invariant-loop-i g l = record {
-  same : l.self.out.ghost_name ≡ l.initial.self.out.ghost_name;
-  stays : l.self.at ≡ l.at;
-  stored : l.self.out.now ≡ sets l.initial.self.out.now l.at (take l.i l.row);
-}
+invariant-loop-i g l = Stored l.initial.self l.at l.row l.i l.self
